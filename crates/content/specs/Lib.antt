@@ -1,3 +1,4 @@
 pub mod Ranks
 pub mod Strips
 pub mod Laws
+pub mod Answered

@@ -1,0 +1,6 @@
+pub mod Limits
+pub mod Heights
+pub mod Picks
+pub mod Ends
+pub mod Between
+pub mod Weighing

@@ -1,0 +1,3 @@
+pub mod Stops
+pub mod Choice
+pub mod Law

@@ -1,0 +1,5 @@
+// Where a page ends.
+mod chooser;
+mod stops;
+
+pub use chooser::choose;
