@@ -11,7 +11,7 @@ use Rattle.std.specs.Finite.{nth}
 use Rattle.std.specs.declared.option.Option.the-variants.{Some, None}
 use Rattle.std.specs.shelf.Lists.{leading}
 use Rattle.std.proofs.shelf.Sums.{leading-le-length}
-use Rattle.std.proofs.shelf.Tests.{cond-true, cond-false, cases-lt}
+use Rattle.std.proofs.shelf.Tests.{both-ways, not-true, not-false, cond-true, cond-false, cases-lt}
 use Rattle.content.specs.declared.ranks.Rank.{Rank}
 use Rattle.content.specs.declared.ranks.Rank.the-variants.{Forced, Free, AgainstOrphansOrWidows, AgainstAvoid}
 use Rattle.content.specs.declared.strips.Strip.{Strip}
@@ -27,6 +27,12 @@ told Forced = inl (refl, refl)
 told Free = inr (refl, λ e. let z : _≡_ {A = ℕ} 0 1 = cc in omega arith)
 told AgainstOrphansOrWidows = inr (refl, λ e. let z : _≡_ {A = ℕ} 0 1 = cc in omega arith)
 told AgainstAvoid = inr (refl, λ e. let z : _≡_ {A = ℕ} 0 1 = cc in omega arith)
+
+pub forced-is : (r : Rank) → is-forced r ≡ true → r ≡ Forced
+forced-is r e = elim (told r) [ inl p ↦ p .1 | inr p ↦ absurd (both-ways (is-forced r) (not-true (is-forced r) (p .0)) e) ]
+
+pub unforced-is : (r : Rank) → is-forced r ≡ false → r ≢ Forced
+unforced-is r e = elim (told r) [ inl p ↦ absurd (both-ways (is-forced r) e (not-false (is-forced r) (p .0))) | inr p ↦ p .1 ]
 
 module _ (x : Strip) (xs : List Strip) where
   run-ends : unforced x ≡ false → leading unforced (x ∷ xs) ≡ 0

@@ -8,11 +8,11 @@ ghost use Rattle.choice.specs.Choice.{between, choice};
 ghost use Rattle.choice.specs.Law.{Ends-best, Near};
 use content::Content;
 use content::Rank;
-use content::RankPartialEq;
 use content::Strip;
 use crate::stops::added;
 use crate::stops::better;
 use crate::stops::first_stop;
+use crate::stops::must_end_before;
 use crate::stops::opening;
 use crate::stops::stop_after;
 
@@ -49,7 +49,7 @@ fn weigh<C: Content>(content: &C, from: u32, end: u32, page: u32, first: Strip) 
     let mut k = 1;
     while let Some(strip) = next {
         body += added(strip);
-        if strip.rank == Rank::Forced || body > u64::from(page) {
+        if must_end_before(page, strip, body) {
             break;
         }
         k += 1;

@@ -1,10 +1,13 @@
 // Stops: what they measure, and which of two is better.
 ghost use Prim.Native.Nat.{_+_, _≤_};
+ghost use mathlib.Core.Bool.{_||_};
 ghost use mathlib.Core.Path.{_≡_};
+ghost use lib.Dec.{ltb};
 ghost use Rattle.content.specs.Laws.{Within};
 ghost use Rattle.choice.specs.Choice.{better};
-ghost use Rattle.choice.specs.Stops.{rank-before};
+ghost use Rattle.choice.specs.Stops.{is-forced, rank-before};
 use content::Rank;
+use content::RankPartialEq;
 use content::RankPartialOrd;
 use content::Strip;
 
@@ -46,6 +49,13 @@ pub(crate) fn stop_after(k: u32, last: Strip, body: u64, next: Option<Strip>) ->
     ensures { λ r. ⌜ r ≡ (k, rank-before next, body + last .tail) ⌝ }
 {
     (k, rank_before(next), body + u64::from(last.tail))
+}
+
+// Whether the page has to end before `strip`: it has to begin a page, or `body`, the height with it, passes the page.
+pub(crate) fn must_end_before(page: u32, strip: Strip, body: u64) -> bool
+    ensures { λ r. ⌜ r ≡ (is-forced (strip .rank) || ltb page body) ⌝ }
+{
+    strip.rank == Rank::Forced || u64::from(page) < body
 }
 
 // Of two stops the one that the page rather ends at; `farther` has more strips.
