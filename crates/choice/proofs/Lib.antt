@@ -4,3 +4,4 @@ pub mod Picks
 pub mod Ends
 pub mod Between
 pub mod Weighing
+pub mod Fronts

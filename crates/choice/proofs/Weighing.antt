@@ -30,6 +30,12 @@ stop-by k next tall = (k, rank-before next, tall)
 stop-is : (xs : List Strip) (k : ℕ) (next : Option Strip) (tall : ℕ) → next ≡ nth xs k → tall ≡ stop-height xs k → stop-by k next tall ≡ stop-at xs k
 stop-is xs k next tall is-next is-tall = ap (λ o. stop-by k o tall) is-next ∙ ap (stop-by k (nth xs k)) is-tall
 
+module _ (page : ℕ) where
+  pub choice-is : (ys : List Strip) → 1 ≤ limit ys → choice page ys ≡ stop-at ys (pick page ys (limit ys))
+  unfolding choice
+  choice-is [] h = absurd (omega arith)
+  choice-is (y ∷ ys) h = refl
+
 module _ (page : ℕ) (xs : List Strip) where
   pub record Weighed (k tall : ℕ) (next : Option Strip) (best : Stop) : Type 0 where
     pub some : 1 ≤ k
@@ -43,11 +49,6 @@ module _ (page : ℕ) (xs : List Strip) where
   has-limit : (ys : List Strip) → 1 ≤ limit ys → Is-limit ys (limit ys)
   has-limit [] h = absurd (omega arith)
   has-limit (y ∷ ys) h = limit-is y ys
-
-  choice-is : (ys : List Strip) → 1 ≤ limit ys → choice page ys ≡ stop-at ys (pick page ys (limit ys))
-  unfolding choice
-  choice-is [] h = absurd (omega arith)
-  choice-is (y ∷ ys) h = refl
 
   some-limit : (ys : List Strip) (s : Strip) → nth ys 0 ≡ Some s → 1 ≤ limit ys
   some-limit [] s read = absurd (let z : _≡_ {A = ℕ} 0 1 = cc in omega arith)
@@ -66,7 +67,7 @@ module _ (page : ℕ) (xs : List Strip) where
 
   -- At the limit the best of the stops weighed is the choice.
   ends-at : (k tall : ℕ) (next : Option Strip) (best : Stop) → Weighed k tall next best → pick page xs k ≡ pick page xs (limit xs) → best ≡ choice page xs
-  ends-at k tall next best w same = w .is-best ∙ ap (stop-at xs) same ∙ sym (choice-is xs (omega (arith, w .some, w .within)))
+  ends-at k tall next best w same = w .is-best ∙ ap (stop-at xs) same ∙ sym (choice-is page xs (omega (arith, w .some, w .within)))
 
   -- One turn: strip s follows the k strips that are weighed.
   module _ (k tall : ℕ) (old : Option Strip) (best : Stop) (w : Weighed k tall old best) (s : Strip) (follows : old ≡ Some s) (more : ℕ) (adds : more ≡ s .lead + s .height) where

@@ -1,8 +1,9 @@
 -- What the choice of a page end means.
 use Prim.Native.Nat.{ℕ, _≤_, _<_}
-use mathlib.Core.List.{List, [], _∷_}
+use mathlib.Core.List.{List, [], _∷_, _++_}
 use mathlib.Core.Logic.{_⊎_}
 use mathlib.Core.Path.{_≡_}
+use lib.ListN.{length, take}
 use Rattle.std.specs.declared.option.Option.{Option}
 use Rattle.std.specs.declared.option.Option.the-variants.{Some, None}
 use Rattle.content.specs.declared.ranks.Rank.{Rank}
@@ -10,8 +11,8 @@ use Rattle.content.specs.declared.ranks.Rank.the-variants.{Free}
 use Rattle.content.specs.declared.strips.Strip.{Strip}
 use Rattle.content.specs.Laws.{Within}
 use Rattle.content.specs.Ranks.{rank-number}
-use Rattle.choice.specs.Stops.{stop-rank, stop-height, Is-limit, limit}
-use Rattle.choice.specs.Choice.{Stop}
+use Rattle.choice.specs.Stops.{stop-rank, body, stop-height, Is-limit}
+use Rattle.choice.specs.Choice.{Stop, choice}
 
 -- A stop up to the limit m whose height is at most the page's.
 pub record Fits-up-to (m page : ℕ) (xs : List Strip) (k : ℕ) : Type 0 where
@@ -45,6 +46,11 @@ pub record Best-end (page : ℕ) (xs : List Strip) (c : Stop) : Type 0 where
 abbrev pub Ends-best : ℕ → List Strip → Stop → Type 0
 Ends-best page [] c = c ≡ (0, Free, 0)
 Ends-best page (x ∷ xs) c = Best-end page (x ∷ xs) c
+
+-- Where the first n strips pass the page, tails aside, what follows them changes nothing, so nobody need look at it.
+-- (n is at least 2, since the rank of stop 1 is that of the second strip.)
+abbrev pub Looks-no-farther : ℕ → List Strip → Stop → Type 0
+Looks-no-farther page xs c = (n : ℕ) (others : List Strip) → 2 ≤ n → n ≤ length xs → page < body xs n → c ≡ choice page (take n xs ++ others)
 
 -- No number of a strip that was read is larger than a reach may be.
 abbrev pub Near : Option Strip → Type 0

@@ -5,7 +5,7 @@ ghost use Rattle.std.specs.Finite.{nth};
 ghost use Rattle.std.specs.declared.option.Option.the-variants.{Some};
 ghost use Rattle.content.specs.Laws.{Within};
 ghost use Rattle.choice.specs.Choice.{between, choice};
-ghost use Rattle.choice.specs.Law.{Ends-best, Near};
+ghost use Rattle.choice.specs.Law.{Ends-best, Looks-no-farther, Near};
 use content::Content;
 use content::Rank;
 use content::Strip;
@@ -21,6 +21,7 @@ use crate::stops::stop_after;
 pub fn choose<C: Content>(content: &C, from: u32, end: u32, page: u32) -> (u32, Rank, u32)
     ensures value { λ r. ⌜ r ≡ choice page (between from end (strips (now (content .entry)))) ⌝ }
     ensures best { λ r. ⌜ Ends-best page (between from end (strips (now (content .entry)))) r ⌝ }
+    ensures near { λ r. ⌜ Looks-no-farther page (between from end (strips (now (content .entry)))) r ⌝ }
     ensures few { λ r. ⌜ r .0 ≤ end - from ⌝ }
 {
     chosen(content, from, end, page)
@@ -29,6 +30,7 @@ pub fn choose<C: Content>(content: &C, from: u32, end: u32, page: u32) -> (u32, 
 fn chosen<C: Content>(content: &C, from: u32, end: u32, page: u32) -> (u32, Rank, u32)
     ensures value { λ r. ⌜ r ≡ choice page (between from end (strips (now (content .entry)))) ⌝ }
     ensures best { λ r. ⌜ Ends-best page (between from end (strips (now (content .entry)))) r ⌝ }
+    ensures near { λ r. ⌜ Looks-no-farther page (between from end (strips (now (content .entry)))) r ⌝ }
     ensures few { λ r. ⌜ r .0 ≤ end - from ⌝ }
 {
     match strip_between(content, from, end, 0) {
