@@ -7,6 +7,8 @@ ghost use lib.ListN.{getD};
 ghost use Rattle.std.specs.Options.{Cases};
 ghost use Rattle.std.specs.Of.Vec.{vec-items, vec-len};
 ghost use Rattle.bale_list.specs.Heights.{Form-height, Height};
+use std::alloc::AllocError;
+use std::alloc::Global;
 
 // A form height as it is written; None where the text is no whole number from 1 to 65,535.
 pub fn form_height(text: &str) -> Option<u32>
@@ -26,6 +28,14 @@ fn in_range(height: u32) -> Option<u32>
     } else {
         None
     }
+}
+
+// What is said of an argument that is no form height.
+pub fn no_height(heap: Global, text: &str) -> Result<String, AllocError> {
+    format!(
+        heap,
+        "'{text}' is no form height: give a whole number from 1 to 65535"
+    )
 }
 
 // Forms in turn; the last height repeats.

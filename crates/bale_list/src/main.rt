@@ -3,11 +3,14 @@ mod forms;
 mod pages;
 mod sample;
 mod tallies;
+#[cfg(test)]
+mod tests;
 
-use forms::Forms;
-use forms::form_height;
 use content::Content;
 use content::RankDisplay;
+use forms::Forms;
+use forms::form_height;
+use forms::no_height;
 use pages::Page;
 use pages::next_page;
 use pieces::ParagraphContent;
@@ -22,8 +25,7 @@ fn read_forms(rt: &LibcRuntime, heap: Global) -> Result<Forms, AnyError> {
     let mut heights = Vec::new(heap);
     for text in env::args(rt)?.skip(1) {
         let Some(height) = form_height(text.as_str()) else {
-            let message = format!(heap, "'{text}' is no form height: give a whole number from 1 to 65535")?;
-            return Err(message.into());
+            return Err(no_height(heap, text.as_str())?.into());
         };
         heights.push(height)?;
     }
@@ -38,14 +40,26 @@ fn print_page(rt: &LibcRuntime, tally: &Tally, form: u32, page: &Page) -> Result
     let height = page.height;
     let strips = page.strips;
     let rank = page.rank;
-    let over = if page.is_over(form) { "over" } else { "not over" };
+    let over = if page.is_over(form) {
+        "over"
+    } else {
+        "not over"
+    };
     let carried = tally.bales;
-    println!(rt, "page {number}: form {form}, used {height}, strips {strips}, rank {rank}, {over}, bales carried {carried}")?;
+    println!(
+        rt,
+        "page {number}: form {form}, used {height}, strips {strips}, rank {rank}, {over}, bales carried {carried}"
+    )?;
     Ok(())
 }
 
 // Lays every page of a content on the forms that come next.
-fn print_pages<C: Content>(rt: &LibcRuntime, content: &mut C, forms: &mut Forms, tally: &mut Tally) -> Result<(), AnyError> {
+fn print_pages<C: Content>(
+    rt: &LibcRuntime,
+    content: &mut C,
+    forms: &mut Forms,
+    tally: &mut Tally,
+) -> Result<(), AnyError> {
     let strips = content.count();
     for _ in 0..strips {
         if content.count() == 0 {
@@ -71,7 +85,10 @@ fn run(rt: &LibcRuntime) -> Result<(), AnyError> {
     let pages = tally.pages;
     let left = rows.count().saturating_add(remark.count());
     let bales = tally.bales;
-    println!(rt, "closing: pages {pages}, strips left {left}, bales {bales}")?;
+    println!(
+        rt,
+        "closing: pages {pages}, strips left {left}, bales {bales}"
+    )?;
     Ok(())
 }
 

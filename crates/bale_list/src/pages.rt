@@ -36,7 +36,12 @@ pub fn next_page<C: Content>(content: &mut C, form: u32) -> Page
     let (count, rank, height) = page_end(content, form);
     let bales = bales_from(content, 0, count);
     content.take(count);
-    Page { strips: count, rank, height, bales }
+    Page {
+        strips: count,
+        rank,
+        height,
+        bales,
+    }
 }
 
 // Where the next page ends.

@@ -7,18 +7,54 @@ use std::alloc::Global;
 
 // Heights are in twentieths of a point. A row with a note is taller; a row of a double tag counts two bales.
 const TAGS: [Row; 12] = [
-    Row { height: 240, bales: 1 },
-    Row { height: 240, bales: 1 },
-    Row { height: 480, bales: 1 },
-    Row { height: 240, bales: 2 },
-    Row { height: 240, bales: 1 },
-    Row { height: 240, bales: 1 },
-    Row { height: 240, bales: 2 },
-    Row { height: 480, bales: 1 },
-    Row { height: 240, bales: 1 },
-    Row { height: 240, bales: 1 },
-    Row { height: 240, bales: 1 },
-    Row { height: 240, bales: 1 },
+    Row {
+        height: 240,
+        bales: 1,
+    },
+    Row {
+        height: 240,
+        bales: 1,
+    },
+    Row {
+        height: 480,
+        bales: 1,
+    },
+    Row {
+        height: 240,
+        bales: 2,
+    },
+    Row {
+        height: 240,
+        bales: 1,
+    },
+    Row {
+        height: 240,
+        bales: 1,
+    },
+    Row {
+        height: 240,
+        bales: 2,
+    },
+    Row {
+        height: 480,
+        bales: 1,
+    },
+    Row {
+        height: 240,
+        bales: 1,
+    },
+    Row {
+        height: 240,
+        bales: 1,
+    },
+    Row {
+        height: 240,
+        bales: 1,
+    },
+    Row {
+        height: 240,
+        bales: 1,
+    },
 ];
 
 pub fn rows(heap: Global) -> Result<RowGroup, PieceFault> {

@@ -89,11 +89,11 @@ module _ (page : ℕ) (xs : List Strip) where
   choice-by-last : (n : ℕ) → 2 ≤ n → 1 ≤ limit xs → page < body xs n → choice page xs ≡ stop-at xs (pick page xs (last-stop n))
   choice-by-last n h some high =
       choice-is page xs some ∙ ap (stop-at xs) (elim (cases-lt (n - 1) (limit xs)) [
-      | inl g ↦
-        let rest : (n - 1) + (limit xs - (n - 1)) ≡ limit xs = omega arith in
-        let last : n - 1 ≡ last-stop n = omega arith in
-        ap (pick page xs) (sym rest) ∙ pick-rest page xs (n - 1) (limit xs - (n - 1)) (λ j l. omega (arith, body-grows xs n j (omega arith) (omega arith))) ∙ ap (pick page xs) last
-      | inr g ↦ let last : limit xs ≡ last-stop n = omega arith in ap (pick page xs) last
+        | inl g ↦
+            let rest : (n - 1) + (limit xs - (n - 1)) ≡ limit xs = omega arith in
+            let last : n - 1 ≡ last-stop n = omega arith in
+            ap (pick page xs) (sym rest) ∙ pick-rest page xs (n - 1) (limit xs - (n - 1)) (λ j l. omega (arith, body-grows xs n j (omega arith) (omega arith))) ∙ ap (pick page xs) last
+        | inr g ↦ let last : limit xs ≡ last-stop n = omega arith in ap (pick page xs) last
       ])
 
   -- The choice by the first n strips alone.

@@ -39,9 +39,9 @@ module _ (xs : List Strip) where
       let same : 1 + (k - 1) ≡ k = omega arith in
       let there : getD rest (k - 1) blank ≡ s = getD-drop 1 xs (k - 1) blank ∙ ap (λ i. getD xs i blank) same ∙ here in
       let led =
-          ap (λ i. sumBy (λ s. s .lead) (take i rest)) back
-          ∙ sumBy-more (λ s. s .lead) rest (k - 1) blank (omega (arith, length-drop 1 xs))
-          ∙ ap (λ t. sumBy (λ s. s .lead) (take (k - 1) rest) + t .lead) there in
+      ap (λ i. sumBy (λ s. s .lead) (take i rest)) back
+      ∙ sumBy-more (λ s. s .lead) rest (k - 1) blank (omega (arith, length-drop 1 xs))
+      ∙ ap (λ t. sumBy (λ s. s .lead) (take (k - 1) rest) + t .lead) there in
       omega (arith, tall, led, leads-are k some, leads-are (k + 1) (omega arith))
 
   pub body-first : (s : Strip) → nth xs 0 ≡ Some s → body xs 1 ≡ s .head + s .height

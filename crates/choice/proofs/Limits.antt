@@ -48,7 +48,7 @@ unforced-before (x ∷ xs) zero h = elim (told (x .rank)) [ inl p ↦ omega (ari
 unforced-before (x ∷ xs) (suc k) h = elim (told (x .rank)) [
   | inl p ↦ omega (arith, run-ends x xs (p .0))
   | inr p ↦ unforced-before xs k (omega (arith, run-goes-on x xs (p .0)))
-  ]
+]
 
 -- The strip after them is forced, unless there is none.
 stops-at : (xs : List Strip) → (rank-before (nth xs (leading unforced xs)) ≡ Forced) ⊎ (leading unforced xs ≡ length xs)
@@ -58,8 +58,8 @@ stops-at (x ∷ xs) = elim (told (x .rank)) [
   | inr p ↦ elim (stops-at xs) [
     | inl q ↦ inl (ap (λ k. rank-before (nth (x ∷ xs) k)) (run-goes-on x xs (p .0)) ∙ q)
     | inr q ↦ inr (run-goes-on x xs (p .0) ∙ ap suc q)
-    ]
   ]
+]
 
 pub limit-is : (x : Strip) (xs : List Strip) → Is-limit (x ∷ xs) (limit (x ∷ xs))
 limit-is x xs = record {
@@ -84,6 +84,6 @@ module _ (xs : List Strip) (m k : ℕ) (is : Is-limit xs m) (some : 1 ≤ k) (ne
   limit-past free inside = elim (cases-lt k m) [
     | inl h ↦ h
     | inr h ↦
-      let here : k ≡ m = omega arith in
-      elim (is .ends) [ inl e ↦ absurd (free (ap (stop-rank xs) here ∙ e)) | inr e ↦ omega arith ]
-    ]
+        let here : k ≡ m = omega arith in
+        elim (is .ends) [ inl e ↦ absurd (free (ap (stop-rank xs) here ∙ e)) | inr e ↦ omega arith ]
+  ]

@@ -96,12 +96,12 @@ module _ (page : ℕ) (xs : List Strip) where
   outdone k l j far low (inl e) = elim (cases-lt (rank-of l) (rank-of k)) [
     | inl h ↦ inl (omega (arith, ap rank-of e))
     | inr h ↦ inr (ap (stop-rank xs) e ∙ same-rank (stop-rank xs k) (stop-rank xs l) (omega arith), omega arith)
-    ]
+  ]
   outdone k l j far low (inr (inl h)) = inl (omega arith)
   outdone k l j far low (inr (inr p)) = elim (cases-lt (rank-of l) (rank-of k)) [
     | inl h ↦ inl (omega (arith, ap rank-number (p .0)))
     | inr h ↦ inr (p .0 ∙ same-rank (stop-rank xs k) (stop-rank xs l) (omega arith), omega (arith, p .1))
-    ]
+  ]
 
   here : (m : ℕ) → fits page xs (suc m) ≡ true → Fits-up-to (suc m) page xs (suc m)
   here m low = record { some = omega arith; near = omega arith; low = leb-true (stop-height xs (suc m)) page low }
@@ -111,13 +111,13 @@ module _ (page : ℕ) (xs : List Strip) where
   weighs m k b t low e (none never) = some (here m low) (λ j f. elim (near-or-here m j f) [ inl g ↦ absurd (never j g) | inr h ↦ inl h ])
   weighs m k b true low e (some f worse) =
       some (here m low) (λ j g. elim (near-or-here m j g) [
-      | inl h ↦ inr (outdone k (suc m) j (omega (arith, f .near)) (leb-true (rank-of (suc m)) (rank-of k) e) (worse j h))
-      | inr h ↦ inl h
+        | inl h ↦ inr (outdone k (suc m) j (omega (arith, f .near)) (leb-true (rank-of (suc m)) (rank-of k) e) (worse j h))
+        | inr h ↦ inl h
       ])
   weighs m k b false low e (some f worse) =
       some (farther m k f) (λ j g. elim (near-or-here m j g) [
-      | inl h ↦ worse j h
-      | inr h ↦ inr (inl (omega (arith, ap rank-of h, leb-false (rank-of (suc m)) (rank-of k) e)))
+        | inl h ↦ worse j h
+        | inr h ↦ inr (inl (omega (arith, ap rank-of h, leb-false (rank-of (suc m)) (rank-of k) e)))
       ])
 
   picked-more : (m : ℕ) (b : Bool) → fits page xs (suc m) ≡ b → Picked m (none-there (fitting page xs m)) (pick m) → Picked (suc m) (none-there (fitting page xs m ++ cond b (suc m ∷ []) [])) (lowest-farthest xs (fitting page xs m ++ cond b (suc m ∷ []) []))

@@ -98,11 +98,11 @@ module _ (page : ℕ) (xs : List Strip) where
       is-next = is-next;
       near = near;
       is-best =
-        is-new
-        ∙ ap (better page best) (is-farther ∙ stop-is xs (k + 1) next (tall + more + s .tail) is-next (omega (arith, next-body, height-at xs k s read)))
-        ∙ ap (λ b. better page b (stop-at xs (k + 1))) (w .is-best)
-        ∙ carried (stop-at xs) _ (k + 1) (pick page xs k)
-        ∙ ap (stop-at xs) (sym (pick-more page xs k (w .some)));
+          is-new
+          ∙ ap (better page best) (is-farther ∙ stop-is xs (k + 1) next (tall + more + s .tail) is-next (omega (arith, next-body, height-at xs k s read)))
+          ∙ ap (λ b. better page b (stop-at xs (k + 1))) (w .is-best)
+          ∙ carried (stop-at xs) _ (k + 1) (pick page xs k)
+          ∙ ap (stop-at xs) (sym (pick-more page xs k (w .some)));
     }
 
     pub weighing-ends : (s .rank ≡ Forced) ⊎ (page < tall + more) → best ≡ choice page xs

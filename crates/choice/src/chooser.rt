@@ -6,15 +6,15 @@ ghost use Rattle.std.specs.declared.option.Option.the-variants.{Some};
 ghost use Rattle.content.specs.Laws.{Within};
 ghost use Rattle.choice.specs.Choice.{between, choice};
 ghost use Rattle.choice.specs.Law.{Ends-best, Looks-no-farther, Near};
-use content::Content;
-use content::Rank;
-use content::Strip;
 use crate::stops::added;
 use crate::stops::better;
 use crate::stops::first_stop;
 use crate::stops::must_end_before;
 use crate::stops::opening;
 use crate::stops::stop_after;
+use content::Content;
+use content::Rank;
+use content::Strip;
 
 // Where a page of this height ends that begins with strip `from` of those left and may hold the strips before `end`:
 // how many strips it takes, the rank of its end, and its height. The page is over where that height passes its own.

@@ -59,7 +59,11 @@ pub(crate) fn must_end_before(page: u32, strip: Strip, body: u64) -> bool
 }
 
 // Of two stops the one that the page rather ends at; `farther` has more strips.
-pub(crate) fn better(page: u32, nearer: (u32, Rank, u32), farther: (u32, Rank, u64)) -> (u32, Rank, u32)
+pub(crate) fn better(
+    page: u32,
+    nearer: (u32, Rank, u32),
+    farther: (u32, Rank, u64),
+) -> (u32, Rank, u32)
     ensures { λ r. ⌜ r ≡ better page nearer farther ⌝ }
 {
     let (strips, rank, height) = farther;

@@ -66,7 +66,13 @@ fn refused(number: u32, node: u32, place: u64) -> Refusal {
 
 #[test]
 fn pictures() -> Result<(), Fail> {
-    for (height, good) in [(0, false), (1, true), (65_535, true), (65_536, false), (u32::MAX, false)] {
+    for (height, good) in [
+        (0, false),
+        (1, true),
+        (65_535, true),
+        (65_536, false),
+        (u32::MAX, false),
+    ] {
         match Picture::new(3, height) {
             Ok(picture) => {
                 check(good)?;
@@ -89,7 +95,10 @@ fn row_counts(rt: LibcRuntime) -> Result<(), Fail> {
     check_eq(group.count(), 0)?;
     for (rows, good) in [(0, false), (1, true), (4_096, true), (4_097, false)] {
         let before = group.count();
-        let given = vec![in heap; Row { height: 100, bales: 1 }; rows]?;
+        let given = vec![in heap; Row {
+            height: 100,
+            bales: 1
+        }; rows]?;
         match group.fill(given.as_slice()) {
             Ok(()) => {
                 check(good)?;
@@ -122,7 +131,10 @@ const ROWS: [(u32, u32, Option<PieceFault>); 9] = [
 fn row_numbers(rt: LibcRuntime) -> Result<(), Fail> {
     let mut group = RowGroup::new(rt.alloc(), 5);
     for (height, bales, fault) in ROWS {
-        let good = Row { height: 50, bales: 2 };
+        let good = Row {
+            height: 50,
+            bales: 2,
+        };
         group.fill(&[good, good])?;
         match group.fill(&[good, Row { height, bales }, good]) {
             Ok(()) => {
@@ -139,6 +151,20 @@ fn row_numbers(rt: LibcRuntime) -> Result<(), Fail> {
         }
     }
     // the first of two faults, and the count before any row
-    check_eq(group.fill(&[Row { height: 1, bales: 10_001 }, Row { height: 0, bales: 0 }]), Err(PieceFault::RowBales(5, 0)))?;
+    check_eq(
+        group.fill(
+            &[
+                Row {
+                    height: 1,
+                    bales: 10_001,
+                },
+                Row {
+                    height: 0,
+                    bales: 0,
+                },
+            ],
+        ),
+        Err(PieceFault::RowBales(5, 0)),
+    )?;
     check_eq(group.fill(&[]), Err(PieceFault::Field(5, 1)))
 }

@@ -76,7 +76,22 @@ fn picture() -> Result<(), Fail> {
 #[test]
 fn rows(rt: LibcRuntime) -> Result<(), Fail> {
     let mut group = RowGroup::new(rt.alloc(), 2);
-    group.fill(&[Row { height: 10, bales: 3 }, Row { height: 20, bales: 0 }, Row { height: 30, bales: 4 }])?;
+    group.fill(
+        &[
+            Row {
+                height: 10,
+                bales: 3,
+            },
+            Row {
+                height: 20,
+                bales: 0,
+            },
+            Row {
+                height: 30,
+                bales: 4,
+            },
+        ],
+    )?;
     check_eq(bales_from(&group, 0, 3), 7)?;
     check_eq(bales_from(&group, 0, u32::MAX), 7)?;
     check_eq(bales_from(&group, 1, 2), 4)?;
@@ -86,7 +101,12 @@ fn rows(rt: LibcRuntime) -> Result<(), Fail> {
     check_eq(group.strip(1), None)?;
     check_eq(group.strip(u32::MAX), None)?;
     // a fill begins the group anew
-    group.fill(&[Row { height: 40, bales: 5 }])?;
+    group.fill(
+        &[Row {
+            height: 40,
+            bales: 5,
+        }],
+    )?;
     check_eq(group.count(), 1)?;
     check_eq(group.strip(0), Some(plain(2, 0, 40, 5, Rank::Free)))
 }

@@ -30,7 +30,7 @@ full : (page body : ℕ) (s : Strip) (r : Bool) → r ≡ true → r ≡ (is-for
 full page body s r taken says = elim (or-cases (is-forced (s .rank)) (ltb page body) (sym says ∙ taken)) [
   | inl h ↦ inl (forced-is (s .rank) h)
   | inr h ↦ inr (ltb-true page body h)
-  ]
+]
 
 pub add-k : need.add-k
 add-k g c =

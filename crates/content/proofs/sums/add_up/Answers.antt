@@ -34,5 +34,5 @@ returns-after-loop-i g c =
     let held = c .args .content .now in
     let few = g .C·Content·met .lawful held .few in
     let came : (c .loop-i .i ≡ c .args .from + c .args .k) ⊎ (length (g .C·Content .strips held) ≤ c .loop-i .i) =
-        elim (cases-lt (c .args .from + c .args .k) 4294967295) [ inl h ↦ inl (omega arith) | inr h ↦ inr (omega arith) ] in
+    elim (cases-lt (c .args .from + c .args .k) 4294967295) [ inl h ↦ inl (omega arith) | inr h ↦ inr (omega arith) ] in
     c .loop-i .inv ∙ ap bales-of (all-passed (g .C·Content .strips held) (c .args .from) (c .loop-i .i) (c .args .k) (omega arith) came)
