@@ -14,7 +14,7 @@ use Rattle.content.specs.declared.strips.Strip.{Strip}
 use Rattle.content.specs.Laws.{Within, Lawful}
 use Rattle.content.proofs.Nth.{nth-drop, nth-take}
 use Rattle.choice.specs.Choice.{between}
-use Rattle.choice.specs.Law.{Near}
+use Rattle.choice.specs.Bounds.{Bounded}
 
 module _ (from end : ℕ) (ys : List Strip) where
   pub read-inside : (k : ℕ) → from + k < end → nth (between from end ys) k ≡ nth ys (from + k)
@@ -45,10 +45,10 @@ widened reach s h w = record {
   bales-within = omega arith;
 }
 
-all-near : (reach : ℕ) (ys : List Strip) (i : ℕ) → reach ≤ 200000 → All (Within reach) ys → Near (nth ys i)
-all-near reach [] i h all = tt
-all-near reach (y ∷ ys) zero h all = widened reach y h (all .0)
-all-near reach (y ∷ ys) (suc i) h all = all-near reach ys i h (all .1)
+all-bounded : (reach : ℕ) (ys : List Strip) (i : ℕ) → reach ≤ 200000 → All (Within reach) ys → Bounded (nth ys i)
+all-bounded reach [] i h all = tt
+all-bounded reach (y ∷ ys) zero h all = widened reach y h (all .0)
+all-bounded reach (y ∷ ys) (suc i) h all = all-bounded reach ys i h (all .1)
 
-pub read-near : (reach : ℕ) (ys : List Strip) (i : ℕ) → Lawful ys reach → Near (nth ys i)
-read-near reach ys i l = all-near reach ys i (l .near) (l .each)
+pub read-bounded : (reach : ℕ) (ys : List Strip) (i : ℕ) → Lawful ys reach → Bounded (nth ys i)
+read-bounded reach ys i l = all-bounded reach ys i (l .bounded) (l .each)

@@ -4,12 +4,9 @@ use mathlib.Core.List.{List, [], _∷_, _++_}
 use mathlib.Core.Logic.{_⊎_}
 use mathlib.Core.Path.{_≡_}
 use lib.ListN.{length, take}
-use Rattle.std.specs.declared.option.Option.{Option}
-use Rattle.std.specs.declared.option.Option.the-variants.{Some, None}
 use Rattle.content.specs.declared.ranks.Rank.{Rank}
 use Rattle.content.specs.declared.ranks.Rank.the-variants.{Free}
 use Rattle.content.specs.declared.strips.Strip.{Strip}
-use Rattle.content.specs.Laws.{Within}
 use Rattle.content.specs.Ranks.{rank-number}
 use Rattle.choice.specs.Stops.{stop-rank, body, stop-height, Is-limit}
 use Rattle.choice.specs.Choice.{Stop, choice}
@@ -51,8 +48,3 @@ Ends-best page (x ∷ xs) c = Best-end page (x ∷ xs) c
 -- (n is at least 2, since the rank of stop 1 is that of the second strip.)
 abbrev pub Looks-no-farther : ℕ → List Strip → Stop → Type 0
 Looks-no-farther page xs c = (n : ℕ) (others : List Strip) → 2 ≤ n → n ≤ length xs → page < body xs n → c ≡ choice page (take n xs ++ others)
-
--- No number of a strip that was read is larger than a reach may be.
-abbrev pub Near : Option Strip → Type 0
-Near None = Unit {0}
-Near (Some s) = Within 200000 s

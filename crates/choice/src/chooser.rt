@@ -4,8 +4,9 @@ ghost use mathlib.Core.Path.{_≡_};
 ghost use Rattle.std.specs.Finite.{nth};
 ghost use Rattle.std.specs.declared.option.Option.the-variants.{Some};
 ghost use Rattle.content.specs.Laws.{Within};
+ghost use Rattle.choice.specs.Bounds.{Bounded};
 ghost use Rattle.choice.specs.Choice.{between, choice};
-ghost use Rattle.choice.specs.Law.{Ends-best, Looks-no-farther, Near};
+ghost use Rattle.choice.specs.Law.{Ends-best, Looks-no-farther};
 use crate::stops::added;
 use crate::stops::better;
 use crate::stops::first_stop;
@@ -21,7 +22,7 @@ use content::Strip;
 pub fn choose<C: Content>(content: &C, from: u32, end: u32, page: u32) -> (u32, Rank, u32)
     ensures value { λ r. ⌜ r ≡ choice page (between from end (strips (now (content .entry)))) ⌝ }
     ensures best { λ r. ⌜ Ends-best page (between from end (strips (now (content .entry)))) r ⌝ }
-    ensures near { λ r. ⌜ Looks-no-farther page (between from end (strips (now (content .entry)))) r ⌝ }
+    ensures no_farther { λ r. ⌜ Looks-no-farther page (between from end (strips (now (content .entry)))) r ⌝ }
     ensures few { λ r. ⌜ r .0 ≤ end - from ⌝ }
 {
     chosen(content, from, end, page)
@@ -30,7 +31,7 @@ pub fn choose<C: Content>(content: &C, from: u32, end: u32, page: u32) -> (u32, 
 fn chosen<C: Content>(content: &C, from: u32, end: u32, page: u32) -> (u32, Rank, u32)
     ensures value { λ r. ⌜ r ≡ choice page (between from end (strips (now (content .entry)))) ⌝ }
     ensures best { λ r. ⌜ Ends-best page (between from end (strips (now (content .entry)))) r ⌝ }
-    ensures near { λ r. ⌜ Looks-no-farther page (between from end (strips (now (content .entry)))) r ⌝ }
+    ensures no_farther { λ r. ⌜ Looks-no-farther page (between from end (strips (now (content .entry)))) r ⌝ }
     ensures few { λ r. ⌜ r .0 ≤ end - from ⌝ }
 {
     match strip_between(content, from, end, 0) {
@@ -42,7 +43,7 @@ fn chosen<C: Content>(content: &C, from: u32, end: u32, page: u32) -> (u32, Rank
 // Weighs one stop after the other, and stops at the limit, or at the first strip that passes the page without its tail.
 fn weigh<C: Content>(content: &C, from: u32, end: u32, page: u32, first: Strip) -> (u32, Rank, u32)
     requires read { ⌜ nth (between from end (strips (now content))) 0 ≡ Some first ⌝ }
-    requires near { ⌜ Within 200000 first ⌝ }
+    requires bounded { ⌜ Within 200000 first ⌝ }
     ensures { λ r. ⌜ r ≡ choice page (between from end (strips (now (content .entry)))) ⌝ }
 {
     let mut body = opening(first);
@@ -64,7 +65,7 @@ fn weigh<C: Content>(content: &C, from: u32, end: u32, page: u32, first: Strip) 
 // Strip k of those from `from` on and before `end`.
 fn strip_between<C: Content>(content: &C, from: u32, end: u32, k: u32) -> Option<Strip>
     ensures read { λ r. ⌜ r ≡ nth (between from end (strips (now (content .entry)))) k ⌝ }
-    ensures near { λ r. ⌜ Near r ⌝ }
+    ensures bounded { λ r. ⌜ Bounded r ⌝ }
 {
     if k < end.saturating_sub(from) {
         content.strip(from + k)

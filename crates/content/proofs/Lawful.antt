@@ -23,7 +23,7 @@ module _ (n : ℕ) (xs : List Strip) where
   pub lawful-drop : (reach : ℕ) → Lawful xs reach → Lawful (drop n xs) reach
   lawful-drop reach l = record {
     few = omega (arith, length-drop n xs, l .few);
-    near = l .near;
+    bounded = l .bounded;
     each = all-drop (Within reach) n xs (l .each);
     tails = tails-drop (l .tails);
     last = last-drop (l .last);

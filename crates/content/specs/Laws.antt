@@ -27,7 +27,7 @@ Last-has-no-tail xs = (k : ℕ) → k + 1 ≡ length xs → getD xs k blank .tai
 -- A rank is at most 3 by its type.
 pub record Lawful (xs : List Strip) (reach : ℕ) : Type 0 where
   pub few : length xs ≤ 1000000
-  pub near : reach ≤ 200000
+  pub bounded : reach ≤ 200000
   pub each : All (Within reach) xs
   pub tails : Tails-give-way xs
   pub last : Last-has-no-tail xs

@@ -3,7 +3,7 @@
 pub struct Refusal {
     // which check failed
     pub number: u32,
-    // which layer refused: 1 piece, 2 box or pair, 3 reader, 4 galley
+    // which layer refused, as docs/REFUSALS.md counts them
     pub layer: u32,
     // the block that was at fault, or 0
     pub node: u32,

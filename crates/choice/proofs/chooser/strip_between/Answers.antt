@@ -1,7 +1,7 @@
 use mathlib.Core.Path.{sym, subst, _∙_}
 use native.Mathlib.Omega.{arith}
-use Rattle.choice.specs.Law.{Near}
-use Rattle.choice.proofs.Between.{read-inside, read-outside, read-near}
+use Rattle.choice.specs.Bounds.{Bounded}
+use Rattle.choice.proofs.Between.{read-inside, read-outside, read-bounded}
 use Rattle.choice.proofs.chooser.strip_between.Needs as need
 
 pub returns-then-k-saturating-sub : need.returns-then-k-saturating-sub
@@ -10,9 +10,9 @@ returns-then-k-saturating-sub g c =
     let ys = g .C·Content .strips held in
     record {
       read = c .strip .ensures ∙ sym (read-inside (c .args .from) (c .args .end) ys (c .args .k) (omega arith));
-      near = subst Near (sym (c .strip .ensures)) (read-near (g .C·Content .reach held) ys _ (g .C·Content·met .lawful held));
+      bounded = subst Bounded (sym (c .strip .ensures)) (read-bounded (g .C·Content .reach held) ys _ (g .C·Content·met .lawful held));
     }
 
 pub returns-else-k-saturating-sub : need.returns-else-k-saturating-sub
 returns-else-k-saturating-sub g c =
-    record { read = sym (read-outside (c .args .from) (c .args .end) (g .C·Content .strips (c .args .content .now)) (c .args .k) (omega arith)); near = tt }
+    record { read = sym (read-outside (c .args .from) (c .args .end) (g .C·Content .strips (c .args .content .now)) (c .args .k) (omega arith)); bounded = tt }
