@@ -5,8 +5,10 @@ ghost use mathlib.Core.Path.{_≡_};
 ghost use lib.Dec.{leb, ltb};
 ghost use lib.ListN.{getD};
 ghost use Rattle.std.specs.Options.{Cases};
+ghost use Rattle.std.specs.Of.String.{string-bytes};
 ghost use Rattle.std.specs.Of.Vec.{vec-items, vec-len};
-ghost use Rattle.bale_list.specs.Heights.{Form-height, Height};
+ghost use Rattle.std.specs.Vec.{made};
+ghost use Rattle.bale_list.specs.Heights.{Form-height, Height, no-height};
 use std::alloc::AllocError;
 use std::alloc::Global;
 
@@ -31,7 +33,9 @@ fn in_range(height: u32) -> Option<u32>
 }
 
 // What is said of an argument that is no form height.
-pub fn no_height(heap: Global, text: &str) -> Result<String, AllocError> {
+pub fn no_height(heap: Global, text: &str) -> Result<String, AllocError>
+    ensures { λ r. ⌜ made r (λ s. string-bytes s ≡ no-height (now (text .entry))) ⌝ }
+{
     format!(
         heap,
         "'{text}' is no form height: give a whole number from 1 to 65535"

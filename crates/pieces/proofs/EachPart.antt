@@ -49,7 +49,7 @@ module _ (f : ℕ → Strip) (n : ℕ) where
       let long = length-map-counting f 0 n in
       record {
         few = omega arith;
-        near = omega arith;
+        bounded = omega arith;
         each = all-from-getD (Within 65535) (each-part f n) blank (λ i h. let lt : i < n = omega arith in rw (part-reads i lt) (within i (fair i lt) (bare i)));
         tails = λ k h. omega (arith, ap (λ s. s .tail) (part-reads k (omega arith)), bare k .2);
         last = λ k h. ap (λ s. s .tail) (part-reads k (omega arith)) ∙ bare k .2;
