@@ -1,3 +1,1 @@
-pub mod Heights
-pub mod Sheets
 pub mod Sample

@@ -1,24 +1,19 @@
 // Cuts a sample bale list into pages on the forms whose heights are its arguments, and prints a line for each page.
-mod forms;
-mod pages;
 mod sample;
-mod tallies;
-#[cfg(test)]
-mod tests;
 
 use content::Content;
 use content::RankDisplay;
-use forms::Forms;
-use forms::form_height;
-use forms::no_height;
-use pages::Page;
-use pages::next_page;
 use pieces::ParagraphContent;
 use pieces::RowGroupContent;
+use sheets::Forms;
+use sheets::Page;
+use sheets::Tally;
+use sheets::form_height;
+use sheets::next_page;
+use sheets::no_height;
 use std::alloc::Global;
 use std::env;
 use std::error::AnyError;
-use tallies::Tally;
 
 // The heights on the command line, or which of them is no height.
 fn read_forms(rt: &LibcRuntime, heap: Global) -> Result<Forms, AnyError> {

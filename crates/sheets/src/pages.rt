@@ -4,7 +4,7 @@ ghost use Prim.Native.Nat.{_≤_};
 ghost use lib.Dec.{ltb};
 ghost use lib.ListN.{drop, length};
 ghost use Rattle.choice.specs.Choice.{choice};
-ghost use Rattle.bale_list.specs.Sheets.{page-of};
+ghost use Rattle.sheets.specs.NextPage.{page-of};
 use choice::choose;
 use content::Content;
 use content::Rank;

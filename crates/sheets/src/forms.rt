@@ -8,7 +8,7 @@ ghost use Rattle.std.specs.Options.{Cases};
 ghost use Rattle.std.specs.Of.String.{string-bytes};
 ghost use Rattle.std.specs.Of.Vec.{vec-items, vec-len};
 ghost use Rattle.std.specs.Vec.{made};
-ghost use Rattle.bale_list.specs.Heights.{Form-height, Height, no-height};
+ghost use Rattle.sheets.specs.Heights.{Form-height, Height, no-height};
 use std::alloc::AllocError;
 use std::alloc::Global;
 

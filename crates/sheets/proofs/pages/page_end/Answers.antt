@@ -3,7 +3,7 @@ use native.Mathlib.Omega.{arith}
 use lib.ListN.{take}
 use Rattle.std.proofs.shelf.Lists.{take-all}
 use Rattle.choice.specs.Choice.{choice}
-use Rattle.bale_list.proofs.pages.page_end.Needs as need
+use Rattle.sheets.proofs.pages.page_end.Needs as need
 
 -- The strips before the last place are all strips.
 pub returns : need.returns

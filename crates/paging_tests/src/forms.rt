@@ -1,7 +1,7 @@
 // Form heights, good and bad, and the turn of the forms.
-use crate::forms::Forms;
-use crate::forms::form_height;
-use crate::forms::no_height;
+use sheets::Forms;
+use sheets::form_height;
+use sheets::no_height;
 use std::test::*;
 
 #[test]
