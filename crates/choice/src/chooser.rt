@@ -28,6 +28,7 @@ pub fn choose<C: Content>(content: &C, from: u32, end: u32, page: u32) -> (u32, 
     chosen(content, from, end, page)
 }
 
+// `choose`, with its proof: that call itself wants none.
 fn chosen<C: Content>(content: &C, from: u32, end: u32, page: u32) -> (u32, Rank, u32)
     ensures value { λ r. ⌜ r ≡ choice page (between from end (strips (now (content .entry)))) ⌝ }
     ensures best { λ r. ⌜ Ends-best page (between from end (strips (now (content .entry)))) r ⌝ }

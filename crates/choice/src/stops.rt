@@ -44,6 +44,7 @@ pub(crate) fn first_stop(first: Strip, next: Option<Strip>) -> (u32, Rank, u32)
 }
 
 // Stop k, where `last` is strip k, `body` is its height without the tail, and `next` follows.
+// A page is lower than 2 ^ 32, so the body of a stop that comes into question stays far below what would wrap.
 pub(crate) fn stop_after(k: u32, last: Strip, body: u64, next: Option<Strip>) -> (u32, Rank, u64)
     requires { ⌜ body ≤ 5000000000 ⌝ }
     ensures { λ r. ⌜ r ≡ (k, rank-before next, body + last .tail) ⌝ }

@@ -47,7 +47,7 @@ fn paragraphs() -> Result<(), Fail> {
                 check_eq(paragraph.reach(), 65_535)?;
             }
             Err(fault) => {
-                check_eq(fault, PieceFault::Field(7, field))?;
+                check_eq(fault, PieceFault::Field { node: 7, field })?;
                 check_eq(fault.refusal(), refused(9, 7, u64::from(field)))?;
             }
         }
@@ -118,13 +118,17 @@ fn row_counts(rt: LibcRuntime) -> Result<(), Fail> {
 const ROWS: [(u32, u32, Option<PieceFault>); 9] = [
     (1, 0, None),
     (65_535, 10_000, None),
-    (0, 0, Some(PieceFault::RowHeight(5, 1))),
-    (65_536, 0, Some(PieceFault::RowHeight(5, 1))),
-    (u32::MAX, 0, Some(PieceFault::RowHeight(5, 1))),
-    (1, 10_001, Some(PieceFault::RowBales(5, 1))),
-    (1, u32::MAX, Some(PieceFault::RowBales(5, 1))),
-    (0, 10_001, Some(PieceFault::RowHeight(5, 1))),
-    (65_536, u32::MAX, Some(PieceFault::RowHeight(5, 1))),
+    (0, 0, Some(PieceFault::RowHeight { node: 5, row: 1 })),
+    (65_536, 0, Some(PieceFault::RowHeight { node: 5, row: 1 })),
+    (u32::MAX, 0, Some(PieceFault::RowHeight { node: 5, row: 1 })),
+    (1, 10_001, Some(PieceFault::RowBales { node: 5, row: 1 })),
+    (1, u32::MAX, Some(PieceFault::RowBales { node: 5, row: 1 })),
+    (0, 10_001, Some(PieceFault::RowHeight { node: 5, row: 1 })),
+    (
+        65_536,
+        u32::MAX,
+        Some(PieceFault::RowHeight { node: 5, row: 1 }),
+    ),
 ];
 
 #[test]
@@ -164,7 +168,10 @@ fn row_numbers(rt: LibcRuntime) -> Result<(), Fail> {
                 },
             ],
         ),
-        Err(PieceFault::RowBales(5, 0)),
+        Err(PieceFault::RowBales { node: 5, row: 0 }),
     )?;
-    check_eq(group.fill(&[]), Err(PieceFault::Field(5, 1)))
+    check_eq(
+        group.fill(&[]),
+        Err(PieceFault::Field { node: 5, field: 1 }),
+    )
 }

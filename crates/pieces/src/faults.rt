@@ -5,14 +5,14 @@ use content::Refusal;
 
 #[derive(Clone, Copy, PartialEq, Eq, Debug)]
 pub enum PieceFault {
-    // a number is out of range: the piece's node, and the number's place among the piece's fields, from 1
-    Field(u32, u32),
-    // the height of a row is out of range: the group's node and the row's index
-    RowHeight(u32, u32),
-    // the bales of a row are out of range: the group's node and the row's index
-    RowBales(u32, u32),
-    // the rows are good, and there was no memory for them: the group's node
-    Memory(u32),
+    // a number is out of range: its place among the piece's fields, from 1
+    Field { node: u32, field: u32 },
+    // the height of a row is out of range: the row's index
+    RowHeight { node: u32, row: u32 },
+    // the bales of a row are out of range: the row's index
+    RowBales { node: u32, row: u32 },
+    // the rows are good, and there was no memory for them
+    Memory { node: u32 },
 }
 
 impl PieceFault {
@@ -20,10 +20,10 @@ impl PieceFault {
         ensures { λ r. ⌜ r ≡ piece-refusal self ⌝ }
     {
         let (number, node, place) = match self {
-            PieceFault::Field(node, field) => (9, node, field),
-            PieceFault::RowHeight(node, row) => (9, node, row),
-            PieceFault::RowBales(node, row) => (9, node, row),
-            PieceFault::Memory(node) => (255, node, 0),
+            PieceFault::Field { node, field } => (9, node, field),
+            PieceFault::RowHeight { node, row } => (9, node, row),
+            PieceFault::RowBales { node, row } => (9, node, row),
+            PieceFault::Memory { node } => (255, node, 0),
         };
         Refusal {
             number,

@@ -15,12 +15,12 @@ pub struct Row {
 }
 
 impl Row {
-    // The checks of row i of block `node`.
-    fn check(self, node: u32, i: u32) -> Result<(), PieceFault>
-        ensures { λ r. ⌜ r ≡ row-checked node i self ⌝ }
+    // The checks of this row of block `node`.
+    fn check(self, node: u32, row: u32) -> Result<(), PieceFault>
+        ensures { λ r. ⌜ r ≡ row-checked node row self ⌝ }
     {
-        in_range(1, 65_535, self.height, PieceFault::RowHeight(node, i))?;
-        in_range(0, 10_000, self.bales, PieceFault::RowBales(node, i))
+        in_range(1, 65_535, self.height, PieceFault::RowHeight { node, row })?;
+        in_range(0, 10_000, self.bales, PieceFault::RowBales { node, row })
     }
 }
 
@@ -30,7 +30,7 @@ pub(crate) fn check_rows(node: u32, rows: &[Row]) -> Result<(), PieceFault>
     ensures good { λ r. ⌜ Decides (isOk r) (Rows-good (now (rows .entry))) ⌝ }
 {
     if rows.is_empty() || 4_096 < rows.len() {
-        return Err(PieceFault::Field(node, 1));
+        return Err(PieceFault::Field { node, field: 1 });
     }
     each_row(node, rows)
 }

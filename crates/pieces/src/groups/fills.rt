@@ -64,7 +64,7 @@ fn hold(held: &mut Vec<Row>, rows: &[Row], node: u32) -> Result<(), PieceFault>
 {
     let more = rows.len().saturating_sub(held.len());
     if held.reserve(more).is_err() {
-        return Err(PieceFault::Memory(node));
+        return Err(PieceFault::Memory { node });
     }
     held.clear();
     held.extend_from_slice(rows).unwrap();

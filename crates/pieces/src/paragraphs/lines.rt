@@ -22,10 +22,10 @@ impl Paragraph {
     ) -> Result<Paragraph, PieceFault>
         ensures { λ r. ⌜ Answered (paragraph-checked node «line_height» lines orphans widows) (λ p. paragraph-left p ≡ paragraph-strips node «line_height» lines orphans widows) r ⌝ }
     {
-        in_range(1, 65_535, line_height, PieceFault::Field(node, 1))?;
-        in_range(1, 4_096, lines, PieceFault::Field(node, 2))?;
-        in_range(1, 255, orphans, PieceFault::Field(node, 3))?;
-        in_range(1, 255, widows, PieceFault::Field(node, 4))?;
+        in_range(1, 65_535, line_height, PieceFault::Field { node, field: 1 })?;
+        in_range(1, 4_096, lines, PieceFault::Field { node, field: 2 })?;
+        in_range(1, 255, orphans, PieceFault::Field { node, field: 3 })?;
+        in_range(1, 255, widows, PieceFault::Field { node, field: 4 })?;
         Ok(Paragraph {
             node,
             line_height,

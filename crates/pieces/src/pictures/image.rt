@@ -16,7 +16,7 @@ impl Picture {
     pub fn new(node: u32, height: u32) -> Result<Picture, PieceFault>
         ensures { λ r. ⌜ Answered (picture-checked node height) (λ p. picture-left p ≡ picture-strips node height) r ⌝ }
     {
-        in_range(1, 65_535, height, PieceFault::Field(node, 1))?;
+        in_range(1, 65_535, height, PieceFault::Field { node, field: 1 })?;
         Ok(Picture {
             node,
             height,
