@@ -19,8 +19,8 @@ use Rattle.content.specs.Ranks.{rank-number}
 use Rattle.content.proofs.Nth.{nth-take}
 use Rattle.choice.specs.Stops.{body, stop-height, limit}
 use Rattle.choice.specs.Choice.{Stop, fitting, stop-at, choice}
-use Rattle.choice.specs.Law.{Looks-no-farther}
-use Rattle.choice.proofs.Limits.{unforced}
+use Rattle.choice.specs.Law.{Past-page-changes-nothing}
+use Rattle.choice.proofs.Limits.{unforced, some-stop}
 use Rattle.choice.proofs.Heights.{body-grows}
 use Rattle.choice.proofs.Weighing.{stop-by, choice-is}
 use Rattle.choice.proofs.Picks.{none-there, pick, pick-one, pick-more, pick-rest, picked, picked-within}
@@ -108,12 +108,8 @@ module _ (page : ℕ) (xs : List Strip) where
       ∙ ap (stop-at front) (sym (pick-front n m (omega arith) (omega arith)))
       ∙ ap (λ i. stop-at front (pick page front i)) same
 
-some-stop : (xs : List Strip) → 1 ≤ length xs → 1 ≤ limit xs
-some-stop [] h = absurd (omega arith)
-some-stop (x ∷ xs) h = omega arith
-
-pub looks-no-farther : (page : ℕ) (xs : List Strip) → Looks-no-farther page xs (choice page xs)
-looks-no-farther page xs n others h long high =
+pub past-page-changes-nothing : (page : ℕ) (xs : List Strip) → Past-page-changes-nothing page xs (choice page xs)
+past-page-changes-nothing page xs n others h long high =
     let front = take n xs in
     let all = front ++ others in
     let cut : take n all ≡ front = take-at front others n (length-take-le n xs long) in

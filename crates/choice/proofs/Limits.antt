@@ -72,6 +72,11 @@ limit-is x xs = record {
   below zero h l = omega arith
   below (suc k) h l = unforced-before xs k (omega arith)
 
+-- Where there is a strip there is a stop.
+pub some-stop : (xs : List Strip) → 1 ≤ length xs → 1 ≤ limit xs
+some-stop [] h = absurd (omega arith)
+some-stop (x ∷ xs) h = omega arith
+
 -- What the strip at a stop up to the limit tells of the limit.
 module _ (xs : List Strip) (m k : ℕ) (is : Is-limit xs m) (some : 1 ≤ k) (near : k ≤ m) where
   pub limit-at-forced : stop-rank xs k ≡ Forced → k ≡ m

@@ -16,7 +16,7 @@ use Rattle.content.proofs.Nth.{some-inside}
 use Rattle.choice.specs.Stops.{rank-before, stop-rank, body, stop-height, Is-limit, limit}
 use Rattle.choice.specs.Choice.{Stop, stop-at, choice, better}
 use Rattle.choice.specs.Bounds.{Bounded}
-use Rattle.choice.proofs.Limits.{limit-is, limit-at-forced, limit-at-end, limit-past}
+use Rattle.choice.proofs.Limits.{limit-is, some-stop, limit-at-forced, limit-at-end, limit-past}
 use Rattle.choice.proofs.Heights.{body-first, body-more, body-grows, height-at}
 use Rattle.choice.proofs.Picks.{pick, pick-one, pick-more, pick-rest}
 
@@ -39,10 +39,6 @@ has-limit : (xs : List Strip) → 1 ≤ limit xs → Is-limit xs (limit xs)
 has-limit [] h = absurd (omega arith)
 has-limit (x ∷ xs) h = limit-is x xs
 
-some-limit : (xs : List Strip) (s : Strip) → nth xs 0 ≡ Some s → 1 ≤ limit xs
-some-limit [] s read = absurd (let z : _≡_ {A = ℕ} 0 1 = cc in omega arith)
-some-limit (x ∷ xs) s read = limit-is x xs .some
-
 -- The first k strips are weighed: their height without the tail, the strip after them, and the best stop so far.
 pub record Weighed (page : ℕ) (xs : List Strip) (k tall : ℕ) (next : Option Strip) (best : Stop) : Type 0 where
   pub some : 1 ≤ k
@@ -57,7 +53,7 @@ module _ (page : ℕ) (xs : List Strip) (s : Strip) {tall : ℕ} {next : Option 
   pub weighing-starts : nth xs 0 ≡ Some s → Within 200000 s → tall ≡ s .head + s .height → next ≡ nth xs 1 → Bounded next → best ≡ stop-by 1 next (s .head + s .height + s .tail) → Weighed page xs 1 tall next best
   weighing-starts read small opens is-next bounded is-best = record {
     some = omega arith;
-    within = some-limit xs s read;
+    within = some-stop xs (some-inside xs 0 s read);
     is-body = omega (arith, body-first xs s read);
     bound = omega (arith, small .head-within, small .height-within);
     is-next = is-next;

@@ -46,5 +46,5 @@ Ends-best page (x ∷ xs) c = Best-end page (x ∷ xs) c
 
 -- Where the first n strips pass the page, tails aside, what follows them changes nothing, so nobody need look at it.
 -- (n is at least 2, since the rank of stop 1 is that of the second strip.)
-abbrev pub Looks-no-farther : ℕ → List Strip → Stop → Type 0
-Looks-no-farther page xs c = (n : ℕ) (others : List Strip) → 2 ≤ n → n ≤ length xs → page < body xs n → c ≡ choice page (take n xs ++ others)
+abbrev pub Past-page-changes-nothing : ℕ → List Strip → Stop → Type 0
+Past-page-changes-nothing page xs c = (n : ℕ) (others : List Strip) → 2 ≤ n → n ≤ length xs → page < body xs n → c ≡ choice page (take n xs ++ others)

@@ -6,7 +6,7 @@ ghost use Rattle.std.specs.declared.option.Option.the-variants.{Some};
 ghost use Rattle.content.specs.Laws.{Within};
 ghost use Rattle.choice.specs.Bounds.{Bounded};
 ghost use Rattle.choice.specs.Choice.{between, choice};
-ghost use Rattle.choice.specs.Law.{Ends-best, Looks-no-farther};
+ghost use Rattle.choice.specs.Law.{Ends-best, Past-page-changes-nothing};
 use crate::stops::added;
 use crate::stops::better;
 use crate::stops::first_stop;
@@ -22,7 +22,7 @@ use content::Strip;
 pub fn choose<C: Content>(content: &C, from: u32, end: u32, page: u32) -> (u32, Rank, u32)
     ensures value { λ r. ⌜ r ≡ choice page (between from end (strips (now (content .entry)))) ⌝ }
     ensures best { λ r. ⌜ Ends-best page (between from end (strips (now (content .entry)))) r ⌝ }
-    ensures no_farther { λ r. ⌜ Looks-no-farther page (between from end (strips (now (content .entry)))) r ⌝ }
+    ensures past_page { λ r. ⌜ Past-page-changes-nothing page (between from end (strips (now (content .entry)))) r ⌝ }
     ensures few { λ r. ⌜ r .0 ≤ end - from ⌝ }
 {
     chosen(content, from, end, page)
@@ -32,7 +32,7 @@ pub fn choose<C: Content>(content: &C, from: u32, end: u32, page: u32) -> (u32, 
 fn chosen<C: Content>(content: &C, from: u32, end: u32, page: u32) -> (u32, Rank, u32)
     ensures value { λ r. ⌜ r ≡ choice page (between from end (strips (now (content .entry)))) ⌝ }
     ensures best { λ r. ⌜ Ends-best page (between from end (strips (now (content .entry)))) r ⌝ }
-    ensures no_farther { λ r. ⌜ Looks-no-farther page (between from end (strips (now (content .entry)))) r ⌝ }
+    ensures past_page { λ r. ⌜ Past-page-changes-nothing page (between from end (strips (now (content .entry)))) r ⌝ }
     ensures few { λ r. ⌜ r .0 ≤ end - from ⌝ }
 {
     match strip_between(content, from, end, 0) {

@@ -32,6 +32,7 @@ impl Page {
 pub fn next_page<C: Content>(content: &mut C, form: u32) -> Page
     ensures page { λ r. ⌜ r ≡ page-of form (strips (now (content .entry))) ⌝ }
     ensures rest { λ r. ⌜ strips (now (content .exit)) ≡ drop (choice form (strips (now (content .entry))) .0) (strips (now (content .entry))) ⌝ }
+    ensures reach { λ r. ⌜ reach (now (content .exit)) ≡ reach (now (content .entry)) ⌝ }
 {
     let (count, rank, height) = page_end(content, form);
     let bales = bales_from(content, 0, count);
