@@ -1,4 +1,6 @@
 // Cuts a sample bale list into pages on the forms whose heights are its arguments, and prints a line for each page.
+#![tactic(auto)]
+
 mod sample;
 
 use anyhow::anyhow;

@@ -1,4 +1,6 @@
 // Where a page ends.
+#![tactic(auto)]
+
 mod chooser;
 mod examples;
 mod stops;

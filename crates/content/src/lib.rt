@@ -1,4 +1,6 @@
 // What is paged: strips, and contents that hold them.
+#![tactic(auto)]
+
 mod contents;
 mod ranks;
 mod refusals;

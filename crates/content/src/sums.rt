@@ -7,13 +7,13 @@ use crate::strips::Strip;
 
 // The bales of k strips, the first of them strip `from` of those left, or of as many as there are.
 pub fn bales_from<C: Content>(content: &C, from: u32, k: u32) -> u64
-    ensures { result ≡ bales_of (take k (drop from (strips content.now))) }
+    ensures { result ≡ bales_of (take k (drop from (C.strips content.now))) }
 {
     add_up(content, from, k)
 }
 
 fn add_up<C: Content>(content: &C, from: u32, k: u32) -> u64
-    ensures { result ≡ bales_of (take k (drop from (strips content.now))) }
+    ensures { result ≡ bales_of (take k (drop from (C.strips content.now))) }
 {
     let mut bales = 0;
     // No content has as many strips as would wrap.

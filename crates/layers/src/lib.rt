@@ -1,4 +1,6 @@
 // Layers: each holds any content and is one.
+#![tactic(auto)]
+
 mod boxes;
 mod faults;
 mod held;

@@ -1,4 +1,6 @@
 // Examples of paging, each run against numbers worked out by hand.
+#![tactic(auto)]
+
 mod even_lines;
 #[cfg(test)]
 mod forms;

@@ -1,4 +1,6 @@
 // The three pieces that a bale list is made of: paragraphs, pictures and groups of rows.
+#![tactic(auto)]
+
 mod checks;
 mod faults;
 mod groups;

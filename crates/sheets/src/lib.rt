@@ -1,4 +1,6 @@
 // Sheets of a list: the forms they are printed on, the next page, and what the pages come to.
+#![tactic(auto)]
+
 mod forms;
 mod padding;
 mod pages;

@@ -27,6 +27,6 @@ returns-in-Some g c =
 pub returns-in-None : goal.returns-in-None
 returns-in-None g c =
     let xs = between c.args.from c.args.end (g.C.Content.strips c.args.content.now) in
-    let value = choice_of_nothing c.args.page xs (sym c.strip-between.ensures.read ∙ c.in-None.is) in
+    let value = choice_of_nothing c.args.page xs (sym c.strip_between.ensures.read ∙ c.in-None.is) in
     let both = laws c.args.page xs _ value in
     record { value = value; best = both.0; past-page = both.1; few = omega arith }

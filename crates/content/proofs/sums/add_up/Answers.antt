@@ -5,8 +5,8 @@ use Rattle.content.proofs.Nth.{none_outside}
 use Rattle.content.proofs.Bales.{bales_more, bales_bounded, all_passed}
 use Rattle.content.proofs.sums.add_up.Goals as goal
 
-pub overflow-add-bales : goal.overflow-add-bales
-overflow-add-bales g c =
+pub overflow_add-bales : goal.overflow_add-bales
+overflow_add-bales g c =
     let m = g.C.Content in
     let held = c.args.content.now in
     let xs = m.strips held in
@@ -19,10 +19,10 @@ loop-i-preserved g c =
     let more = bales_more xs c.args.from c.loop-i.i c.in-Some.strip (omega arith) (sym c.strip.ensures ∙ c.in-Some.is) in
     omega (arith, more, c.loop-i.invariant)
 
-pub returns-in-default : goal.returns-in-default
-returns-in-default g c =
+pub returns-in_default : goal.returns-in_default
+returns-in_default g c =
     let xs = g.C.Content.strips c.args.content.now in
-    let out = none_outside xs c.loop-i.i (sym c.strip.ensures ∙ c.in-default.is) in
+    let out = none_outside xs c.loop-i.i (sym c.strip.ensures ∙ c.in_default.is) in
     c.loop-i.invariant ∙ ap bales_of (all_passed xs c.args.from c.loop-i.i c.args.k (omega arith) (inr out))
 
 pub returns-after-loop-i : goal.returns-after-loop-i
