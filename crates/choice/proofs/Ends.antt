@@ -5,7 +5,7 @@ use Rattle.content.specs.declared.ranks.Rank.TheVariants.{Free}
 use Rattle.content.specs.declared.strips.Strip.{Strip}
 use Rattle.choice.specs.Stops.{limit}
 use Rattle.choice.specs.Choice.{fitting, choice}
-use Rattle.choice.specs.Law.{BestEnd, EndsBest}
+use Rattle.choice.specs.Law.{EndsBest}
 use Rattle.choice.proofs.Limits.{limit_is}
 use Rattle.choice.proofs.Picks.{none_there, pick, picked, picked_within, picked_best}
 

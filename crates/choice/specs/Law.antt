@@ -1,6 +1,5 @@
 -- What the choice of a page end means.
 use Rattle.std.specs.Prelude.{◌≡◌, ℕ, ◌<◌, ◌≤◌, ◌⊎◌, List, [], ◌∷◌, ◌++◌, length, take}
-use Rattle.content.specs.declared.ranks.Rank.{Rank}
 use Rattle.content.specs.declared.ranks.Rank.TheVariants.{Free}
 use Rattle.content.specs.declared.strips.Strip.{Strip}
 use Rattle.content.specs.Ranks.{rank_number}

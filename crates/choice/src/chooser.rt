@@ -12,9 +12,9 @@ use content::{Content, Rank, Strip};
 // Where a page of this height ends that begins with strip `from` of those left and may hold the strips before `end`:
 // how many strips it takes, the rank of its end, and its height. The page is over where that height passes its own.
 pub fn choose<C: Content>(content: &C, from: u32, end: u32, page: u32) -> (u32, Rank, u32)
-    ensures value { result ≡ choice page (between from end (strips content.now)) }
-    ensures best { EndsBest page (between from end (strips content.now)) result }
-    ensures past_page { PastPageChangesNothing page (between from end (strips content.now)) result }
+    ensures value { result ≡ choice page (between from end (C.strips content.now)) }
+    ensures best { EndsBest page (between from end (C.strips content.now)) result }
+    ensures past_page { PastPageChangesNothing page (between from end (C.strips content.now)) result }
     ensures few { result.0 ≤ end - from }
 {
     chosen(content, from, end, page)
@@ -22,9 +22,9 @@ pub fn choose<C: Content>(content: &C, from: u32, end: u32, page: u32) -> (u32, 
 
 // `choose`, with its proof: that call itself wants none.
 fn chosen<C: Content>(content: &C, from: u32, end: u32, page: u32) -> (u32, Rank, u32)
-    ensures value { result ≡ choice page (between from end (strips content.now)) }
-    ensures best { EndsBest page (between from end (strips content.now)) result }
-    ensures past_page { PastPageChangesNothing page (between from end (strips content.now)) result }
+    ensures value { result ≡ choice page (between from end (C.strips content.now)) }
+    ensures best { EndsBest page (between from end (C.strips content.now)) result }
+    ensures past_page { PastPageChangesNothing page (between from end (C.strips content.now)) result }
     ensures few { result.0 ≤ end - from }
 {
     match strip_between(content, from, end, 0) {
@@ -35,9 +35,9 @@ fn chosen<C: Content>(content: &C, from: u32, end: u32, page: u32) -> (u32, Rank
 
 // Weighs one stop after the other, and stops at the limit, or at the first strip that passes the page without its tail.
 fn weigh<C: Content>(content: &C, from: u32, end: u32, page: u32, first: Strip) -> (u32, Rank, u32)
-    requires read { slice_get (between from end (strips content.now)) 0 ≡ Some first }
+    requires read { slice_get (between from end (C.strips content.now)) 0 ≡ Some first }
     requires bounded { Within 200000 first }
-    ensures { result ≡ choice page (between from end (strips content.now)) }
+    ensures { result ≡ choice page (between from end (C.strips content.now)) }
 {
     let mut body = opening(first);
     let mut next = strip_between(content, from, end, 1);
@@ -57,7 +57,7 @@ fn weigh<C: Content>(content: &C, from: u32, end: u32, page: u32, first: Strip) 
 
 // Strip k of those from `from` on and before `end`.
 fn strip_between<C: Content>(content: &C, from: u32, end: u32, k: u32) -> Option<Strip>
-    ensures read { result ≡ slice_get (between from end (strips content.now)) k }
+    ensures read { result ≡ slice_get (between from end (C.strips content.now)) k }
     ensures bounded { Bounded result }
 {
     if k < end.saturating_sub(from) {

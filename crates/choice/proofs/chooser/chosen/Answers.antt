@@ -20,7 +20,7 @@ returns-in-Some g c =
     record {
       value = value;
       best = both.0;
-      past-page = both.1;
+      past_page = both.1;
       few = omega (arith, ap (λ r. r.0) value, choice_within c.args.page xs, between_few c.args.from c.args.end ys);
     }
 
@@ -29,4 +29,4 @@ returns-in-None g c =
     let xs = between c.args.from c.args.end (g.C.Content.strips c.args.content.now) in
     let value = choice_of_nothing c.args.page xs (sym c.strip_between.ensures.read ∙ c.in-None.is) in
     let both = laws c.args.page xs _ value in
-    record { value = value; best = both.0; past-page = both.1; few = omega arith }
+    record { value = value; best = both.0; past_page = both.1; few = omega arith }
