@@ -6,3 +6,4 @@ pub mod Pictures
 pub mod Rows
 pub mod Groups
 pub mod EachPart
+pub mod PieceLaws

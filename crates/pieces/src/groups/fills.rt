@@ -4,8 +4,7 @@ ghost use Rattle.pieces.specs.declared.faults.PieceFault.TheVariants.{Memory};
 ghost use Rattle.pieces.specs.Groups.{Filled, group_left, row_of};
 ghost use Rattle.pieces.specs.Rows.{RowsGood, rows_checked};
 ghost use Rattle.pieces.specs.Strips.{piece_reach};
-ghost use Rattle.std.proofs.Common.{arith};
-ghost use Rattle.pieces.specs.EachPart.{lawful_rest};
+ghost use Rattle.pieces.specs.PieceLaws.{group_lawful};
 
 use crate::faults::PieceFault;
 use crate::groups::RowGroup;
@@ -68,7 +67,7 @@ impl Content for RowGroup {
 
     ghost reach = { piece_reach };
 
-    ghost lawful = { λ p. lawful_rest (row_of p) p.parts.count p.parts.taken p.parts.few (λ i h. let k = p.fair i (omega arith) in (k.0, k.1, omega arith)) (λ i. (refl, refl, refl)) };
+    ghost lawful = { group_lawful };
 
     fn reach(&self) -> u32 {
         65_535

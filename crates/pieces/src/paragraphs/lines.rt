@@ -3,8 +3,7 @@ ghost use Rattle.std.specs.Prelude.{◌≡◌, refl};
 ghost use Rattle.content.specs.Answered.{Answered};
 ghost use Rattle.pieces.specs.Paragraphs.{line_of, line_rank, paragraph_checked, paragraph_left, paragraph_strips};
 ghost use Rattle.pieces.specs.Strips.{piece_reach};
-ghost use Rattle.std.proofs.Common.{arith};
-ghost use Rattle.pieces.specs.EachPart.{lawful_rest};
+ghost use Rattle.pieces.specs.PieceLaws.{paragraph_lawful};
 
 use crate::checks::in_range;
 use crate::faults::PieceFault;
@@ -59,7 +58,7 @@ impl Content for Paragraph {
 
     ghost reach = { piece_reach };
 
-    ghost lawful = { λ p. lawful_rest (line_of p) p.lines.count p.lines.taken p.lines.few (λ i h. (p.tall, p.low, omega arith)) (λ i. (refl, refl, refl)) };
+    ghost lawful = { paragraph_lawful };
 
     fn reach(&self) -> u32 {
         65_535

@@ -3,8 +3,7 @@ ghost use Rattle.std.specs.Prelude.{◌≡◌, refl};
 ghost use Rattle.content.specs.Answered.{Answered};
 ghost use Rattle.pieces.specs.Pictures.{image_of, picture_checked, picture_left, picture_strips};
 ghost use Rattle.pieces.specs.Strips.{piece_reach};
-ghost use Rattle.std.proofs.Common.{arith};
-ghost use Rattle.pieces.specs.EachPart.{lawful_rest};
+ghost use Rattle.pieces.specs.PieceLaws.{picture_lawful};
 
 use crate::checks::in_range;
 use crate::faults::PieceFault;
@@ -37,7 +36,7 @@ impl Content for Picture {
 
     ghost reach = { piece_reach };
 
-    ghost lawful = { λ p. lawful_rest (image_of p) p.image.count p.image.taken p.image.few (λ i h. (p.tall, p.low, omega arith)) (λ i. (refl, refl, refl)) };
+    ghost lawful = { picture_lawful };
 
     fn reach(&self) -> u32 {
         65_535
