@@ -1,6 +1,6 @@
 -- The bales of the strips that a loop from `from` has passed.
 use Rattle.std.proofs.Common.{◌≡◌, ℕ, ◌+◌, ◌-◌, ◌*◌, ◌≤◌, ◌⊎◌, List, length, take, drop, Some, sym, ap, ◌∙◌, inl, inr, arith}
-use Rattle.std.specs.List.{slice_get, AllByRecursion as All}
+use Rattle.std.specs.List.{slice_get, AllByRecursion}
 use Rattle.std.proofs.lemmas.List.{length-take, length-drop, take_all}
 use Rattle.std.proofs.lemmas.List.Sums.{sum_by_more}
 use Rattle.std.proofs.ByRecursion.{sum_by_le, All-weaker, All-take, All-drop}
@@ -27,7 +27,7 @@ module _ (xs : List Strip) (from i : ℕ) where
   bales_bounded reach l =
       let rest = drop from xs in
       let part = take (i - from) rest in
-      let near : All (λ s. s.bales ≤ 200000) part = All-weaker (Within reach) (λ s. s.bales ≤ 200000) (λ s w. omega arith) part (All-take (Within reach) (i - from) rest (All-drop (Within reach) from xs l.each)) in
+      let near : AllByRecursion (λ s. s.bales ≤ 200000) part = All-weaker (Within reach) (λ s. s.bales ≤ 200000) (λ s w. omega arith) part (All-take (Within reach) (i - from) rest (All-drop (Within reach) from xs l.each)) in
       omega (arith, sum_by_le (λ s. s.bales) 200000 part near, length-take (i - from) rest, length-drop from xs)
 
   -- At the end, or where the strips ran out, all that were asked for are passed.

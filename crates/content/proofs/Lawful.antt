@@ -1,6 +1,6 @@
 -- The laws of a content: they outlast a take, bound each strip that is read, and hold of two lists together.
 use Rattle.std.proofs.Common.{◌≡◌, ℕ, zero, suc, ◌+◌, ◌-◌, ◌<◌, ◌≤◌, List, [], ◌∷◌, ◌++◌, length, get_or, drop, refl, ap, ◌∙◌, inl, inr, add_assoc, arith}
-use Rattle.std.specs.List.{slice_get, AllByRecursion as All}
+use Rattle.std.specs.List.{slice_get, AllByRecursion}
 use Rattle.std.proofs.lemmas.List.{length-drop, length-append, get_or-drop, get_or_append_left, get_or-append_right}
 use Rattle.std.proofs.ByRecursion.{All-append, All-drop, All-weaker}
 use Rattle.std.proofs.lemmas.Bool.{cases_lt}
@@ -38,7 +38,7 @@ within_wider low high s h w = record {
   bales_within = omega arith;
 }
 
-all_bounded : (reach : ℕ) (xs : List Strip) (i : ℕ) → reach ≤ 200000 → All (Within reach) xs → Bounded (slice_get xs i)
+all_bounded : (reach : ℕ) (xs : List Strip) (i : ℕ) → reach ≤ 200000 → AllByRecursion (Within reach) xs → Bounded (slice_get xs i)
 all_bounded reach [] i h all = tt
 all_bounded reach (x ∷ xs) zero h all = within_wider reach 200000 x h all.0
 all_bounded reach (x ∷ xs) (suc i) h all = all_bounded reach xs i h all.1

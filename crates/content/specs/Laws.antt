@@ -1,6 +1,6 @@
 -- What every content shows of its strips and its reach.
 use Rattle.std.specs.Prelude.{◌≡◌, ℕ, ◌+◌, ◌<◌, ◌≤◌, List, length, slice_index_or}
-use Rattle.std.specs.List.{AllByRecursion as All}
+use Rattle.std.specs.List.{AllByRecursion}
 use Rattle.content.specs.declared.strips.Strip.{Strip}
 use Rattle.content.specs.Strips.{blank}
 
@@ -25,6 +25,6 @@ LastHasNoTail xs = (k : ℕ) → k + 1 ≡ length xs → (slice_index_or xs k bl
 pub record Lawful (xs : List Strip) (reach : ℕ) : Type 0 where
   pub few : length xs ≤ 1000000
   pub bounded : reach ≤ 200000
-  pub each : All (Within reach) xs
+  pub each : AllByRecursion (Within reach) xs
   pub tails : TailsGiveWay xs
   pub last : LastHasNoTail xs

@@ -1,6 +1,6 @@
 -- The checks of rows pass where every row is fair, and only there.
 use Rattle.std.proofs.Common.{◌≡◌, ℕ, ◌+◌, ◌<◌, ◌≤◌, ◌&&◌, List, [], ◌∷◌, length, get_or, drop, is_ok, Ok, Err, Decides, sym, refl, ap, ◌∙◌, zero-le, arith}
-use Rattle.std.specs.List.{AllByRecursion as All}
+use Rattle.std.specs.List.{AllByRecursion}
 use Rattle.std.proofs.lemmas.List.{at_drop_more}
 use Rattle.std.proofs.ByRecursion.{All-get_or, All-from_get_or}
 use Rattle.std.proofs.lemmas.Bool.Decides.{nat_tests, Decides-at, Decides-and, Decides-like}
@@ -24,7 +24,7 @@ row_decides block i row =
     Decides-at _ _ (then_both (in_range 1 65535 row.height (RowHeight block i)) (in_range 0 10000 row.bales (RowBales block i)))
     (Decides-like _ (λ h. (h.0.0, h.0.1, h.1.1)) (λ h. ((h.0, h.1), (zero-le, h.2))) (Decides-and _ _ high few))
 
-all_decides : (block i : ℕ) (rows : List Row) → Decides (is_ok (each_row block i rows)) (All RowFair rows)
+all_decides : (block i : ℕ) (rows : List Row) → Decides (is_ok (each_row block i rows)) (AllByRecursion RowFair rows)
 all_decides block i [] = (λ _. tt, λ _. refl)
 all_decides block i (row ∷ rows) =
     Decides-at _ _ (then_both (row_checked block i row) (each_row block (i + 1) rows))
