@@ -1,2 +1,5 @@
+pub mod JoinedParts
+pub mod PaddedStrips
 pub mod Passing
+pub mod Places
 pub mod TwoLists

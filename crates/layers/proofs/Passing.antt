@@ -5,7 +5,8 @@ use Rattle.std.proofs.lemmas.Bool.{ltb-false}
 use Rattle.content.specs.declared.strips.Strip.{Strip}
 use Rattle.layers.specs.Places.{Change, by_place}
 use Rattle.layers.specs.Takes.{Taken, TakenThrough}
-use Rattle.layers.specs.PlacesLemmas.{length-by_place, drop-by_place}
+use Rattle.layers.specs.PlacesLemmas.{length-by_place}
+use Rattle.layers.proofs.Places.{drop-by_place}
 
 module _ (k : ℕ) (begun : Bool) (xs : List Strip) where
   left_by_place : (f : Change) (r : Bool) → by_place f (begun || (r && ltb 0 k)) (cond r (drop k xs) xs) ≡ cond r (drop k (by_place f begun xs)) (by_place f begun xs)

@@ -1,20 +1,14 @@
--- Parts that are joined keep the laws, and stay joined over takes.
-use Rattle.std.specs.Prelude.{◌≡◌, ℕ, ◌+◌, ◌≤◌, max, Bool, true, false, cond, ◌&&◌, List, ◌++◌, length, drop, is_some, Some, None, Ok, Err, Option, Result, MatchResult, nat_le, refl}
-use Rattle.std.proofs.Common.{ap, subst, ◌∙◌, arith}
-use Rattle.std.proofs.lemmas.List.{length-append}
-use Rattle.std.proofs.lemmas.Bool.{false≢true, and_parts, and_from, leb-true, le-leb}
+-- Parts that are joined keep the laws.
+use Rattle.std.specs.Prelude.{◌≡◌, ℕ, ◌+◌, ◌≤◌, max, Bool, true, false, cond, List, ◌++◌, length, Some, None, Option, nat_le, refl}
+use Rattle.std.proofs.Common.{arith}
+use Rattle.std.proofs.lemmas.Bool.{and_parts, leb-true}
 use Rattle.content.specs.declared.strips.Strip.{Strip}
 use Rattle.content.specs.Laws.{Within, Lawful}
 use Rattle.content.proofs.Lawful.{Lawful-append, Lawful_wider}
-use Rattle.layers.specs.declared.faults.LayerFault.{LayerFault}
-use Rattle.layers.specs.declared.faults.LayerFault.TheVariants.{Begun, PairLimit}
-use Rattle.layers.specs.declared.joints.BreakWord.{BreakWord}
-use Rattle.layers.specs.declared.joints.BreakWord.TheVariants.{Auto, Avoid, Force}
 use Rattle.layers.specs.declared.joints.Joint.{Joint}
 use Rattle.layers.specs.declared.pairs.Pair.{Pair}
 use Rattle.layers.specs.Places.{by_place}
-use Rattle.layers.specs.Settled.{Settled}
-use Rattle.layers.specs.Pairs.{JoinedBy, joined, joint_checked, joint_fits, joint_over, linked, linked_count, linked_reach, pair_begun, pair_checked, word_number, word_of}
+use Rattle.layers.specs.Pairs.{joined, joint_fits, joint_over, linked, linked_reach, pair_left, pair_reach}
 use Rattle.layers.specs.LawfulChange.{LawfulChange, Lawful-by_place}
 use Rattle.layers.specs.PlacesLemmas.{length-by_place}
 
@@ -54,50 +48,9 @@ module _ (xs ys : List Strip) (begun : Bool) (m n : ℕ) (first : Lawful xs m) (
     either true fits = both_lawful by fits
     either false over = first
 
--- A joint within the limits stays within them when fewer strips are left.
-pub joint_stays : (m n m' n' : ℕ) (j : Option Joint) → is_some (joint_over m n j) ≡ true → m' ≤ m → n' ≤ n → joint_over m' n' j ≡ joint_over m n j
-joint_stays m n m' n' None some h k = refl
-joint_stays m n m' n' (Some by) some h k = either (joint_fits m n by) refl some where
-  still : joint_fits m n by ≡ true → joint_fits m' n' by ≡ true
-  still fits =
-      let parts = and_parts (nat_le by.gap 4095) (nat_le (m + n) 1000000) fits in
-      and_from (nat_le by.gap 4095) (nat_le (m' + n') 1000000) parts.0 (le-leb (m' + n') 1000000 (omega (arith, leb-true (m + n) 1000000 parts.1)))
-
-  either : (b : Bool) → joint_fits m n by ≡ b → is_some (cond b (Some by) None) ≡ true → cond (joint_fits m' n' by) (Some by) None ≡ cond b (Some by) None
-  either true fits e = ap (λ b. cond b (Some by) None) (still fits)
-  either false over e = absurd (false≢true e)
-
-module _ (xs ys : List Strip) (begun : Bool) where
-  pub linked_length : (j : Option Joint) → length (linked j xs begun ys) ≡ linked_count j (length xs) (length ys)
-  linked_length None = refl
-  linked_length (Some by) = length-append xs (by_place (joined by) begun ys) ∙ ap (λ n. length xs + n) (length-by_place (joined by) begun ys)
-
-  -- What a take leaves of both parts under any joint, it leaves of parts that are joined.
-  pub linked_taken : (j : Option Joint) → is_some j ≡ true → (xs' ys' : List Strip) (begun' : Bool) (k : ℕ) (r : Bool) → ((by : Joint) → linked (Some by) xs' begun' ys' ≡ cond r (drop k (linked (Some by) xs begun ys)) (linked (Some by) xs begun ys)) → linked j xs' begun' ys' ≡ cond r (drop k (linked j xs begun ys)) (linked j xs begun ys)
-  linked_taken None some xs' ys' begun' k r taken = absurd (false≢true some)
-  linked_taken (Some by) some xs' ys' begun' k r taken = taken by
-
-pub counts_both : (j : Option Joint) (m n : ℕ) → is_some j ≡ true → linked_count j m n ≡ m + n
-counts_both None m n some = absurd (false≢true some)
-counts_both (Some by) m n some = refl
-
-pub word_of_number : (word : BreakWord) → word_of (word_number word) ≡ Some word
-word_of_number Auto = refl
-word_of_number Avoid = refl
-word_of_number Force = refl
-
--- What a join answers where the number is a word's and nothing was taken before.
-module _ {A B : Type 0} (first : A → List Strip) (second : B → List Strip) (before after : Pair A B) (m n number : ℕ) (by : Joint) (r : Result (Unit {0}) LayerFault) where
-  abbrev Joins : Result Joint LayerFault → Type 0
-  Joins checked = Settled before after checked (λ j. JoinedBy first second j before after) r
-
-  pub joins : word_of number ≡ Some by.word → pair_begun before ≡ false → Joins (pair_checked (pair_begun before) m n number by.gap) → MatchResult r (λ _. JoinedBy first second by before after) (λ e. joint_fits m n by ≡ false)
-  joins named whole settled = either (joint_fits m n by) refl r (subst Joins checked settled) where
-    checked : pair_checked (pair_begun before) m n number by.gap ≡ cond (joint_fits m n by) (Ok by) (Err PairLimit)
-    checked = ap (λ b. cond b (Err Begun) (joint_checked m n by.gap (word_of number))) whole ∙ ap (joint_checked m n by.gap) named
-
-    either : (b : Bool) → joint_fits m n by ≡ b → (r : Result (Unit {0}) LayerFault) → Settled before after (cond b (Ok by) (Err PairLimit)) (λ j. JoinedBy first second j before after) r → MatchResult r (λ _. JoinedBy first second by before after) (λ e. joint_fits m n by ≡ false)
-    either true fits (Ok _) h = h
-    either true fits (Err e) h = absurd h
-    either false over (Ok _) h = absurd h
-    either false over (Err e) h = over
+-- A pair of lawful contents is lawful.
+pub Lawful-pair_left : {A B : Type 0} (first : A → List Strip) (second : B → List Strip) (reach : A → ℕ) (reach' : B → ℕ) → ((a : A) → Lawful (first a) (reach a)) → ((b : B) → Lawful (second b) (reach' b)) → (p : Pair A B) → Lawful (pair_left first second p) (pair_reach first second reach reach' p)
+Lawful-pair_left first second reach reach' lawful lawful' p =
+    let a = p.first.content in
+    let b = p.second.content in
+    linked_lawful (first a) (second b) p.second.begun (reach a) (reach' b) (lawful a) (lawful' b) p.joint

@@ -1,5 +1,5 @@
 -- A keep grades the breaks inside it as against an avoid.
-use Rattle.std.specs.Prelude.{Bool, cond, List}
+use Rattle.std.specs.Prelude.{cond, List}
 use Rattle.content.specs.declared.ranks.Rank.{Rank}
 use Rattle.content.specs.declared.ranks.Rank.TheVariants.{Forced, Free, AgainstOrphansOrWidows, AgainstAvoid}
 use Rattle.content.specs.declared.strips.Strip.{Strip}

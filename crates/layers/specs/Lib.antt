@@ -6,8 +6,8 @@ pub mod Faults
 pub mod Boxes
 pub mod Keeps
 pub mod Pairs
-pub mod PaddedStrips
-pub mod LawfulChange
 pub mod PlacesLemmas
+pub mod LawfulChange
 pub mod KeptStrips
+pub mod PaddedStrips
 pub mod JoinedParts

@@ -1,15 +1,13 @@
--- Padding keeps the laws, and no padding changes nothing.
-use Rattle.std.specs.Prelude.{◌≡◌, ℕ, ◌+◌, ◌≤◌, Bool, true, false, cond, not, ◌&&◌, List, [], ◌∷◌, length, ◌==◌, refl}
-use Rattle.std.proofs.Common.{sym, ap, ◌∙◌, add-zero, arith}
+-- Padding keeps the laws.
+use Rattle.std.specs.Prelude.{◌≡◌, ℕ, ◌+◌, ◌≤◌, Bool, true, false, cond, not, ◌&&◌, List, refl}
+use Rattle.std.proofs.Common.{arith}
 use Rattle.std.proofs.lemmas.Bool.Decides.{nat_tests}
 use Rattle.content.specs.declared.strips.Strip.{Strip}
-use Rattle.content.specs.Laws.{Within}
+use Rattle.content.specs.Laws.{Within, Lawful}
+use Rattle.layers.specs.declared.boxes.PaddingBox.{PaddingBox}
 use Rattle.layers.specs.declared.padding.Padding.{Padding}
-use Rattle.layers.specs.declared.padding.DecorationBreak.{DecorationBreak}
-use Rattle.layers.specs.declared.padding.DecorationBreak.TheVariants.{Slice, Clone}
-use Rattle.layers.specs.Places.{Change, by_place}
-use Rattle.layers.specs.Boxes.{repeats, padded, bare_padding, padding_fits, padding_over}
-use Rattle.layers.specs.LawfulChange.{LawfulChange}
+use Rattle.layers.specs.Boxes.{repeats, padded, bare_padding, padding_fits, padding_over, box_padding, box_left, box_reach}
+use Rattle.layers.specs.LawfulChange.{LawfulChange, Lawful-by_place}
 
 at_most : (b : Bool) (n : ℕ) → cond b n 0 ≤ n
 at_most true n = omega arith
@@ -51,25 +49,10 @@ padding_bounded reach by h = either (padding_fits reach by) refl where
   either true e = grind (arith, nat_tests)
   either false e = omega arith
 
-bare_strip : (first last : Bool) (s : Strip) → padded bare_padding first last s ≡ s
-bare_strip true true s = simp add-zero
-bare_strip true false s = simp add-zero
-bare_strip false true s = simp add-zero
-bare_strip false false s = simp add-zero
-
-bare_list : (begun : Bool) (xs : List Strip) → by_place (padded bare_padding) begun xs ≡ xs
-bare_list begun [] = refl
-bare_list begun (x ∷ xs) = ap (λ s. s ∷ by_place (padded bare_padding) true xs) (bare_strip (not begun) (length xs == 0) x) ∙ ap (λ ys. x ∷ ys) (bare_list true xs)
-
--- A box without padding is its content.
-pub bare_changes_nothing : (reach : ℕ) (begun : Bool) (xs : List Strip) → by_place (padded (padding_over reach bare_padding)) begun xs ≡ xs
-bare_changes_nothing reach begun xs = either (padding_fits reach bare_padding) where
-  either : (b : Bool) → by_place (padded (cond b bare_padding bare_padding)) begun xs ≡ xs
-  either true = bare_list begun xs
-  either false = bare_list begun xs
-
-pub bare_reaches_no_farther : (reach : ℕ) → reach + (padding_over reach bare_padding).top + (padding_over reach bare_padding).bottom ≡ reach
-bare_reaches_no_farther reach = either (padding_fits reach bare_padding) where
-  either : (b : Bool) → reach + (cond b bare_padding bare_padding).top + (cond b bare_padding bare_padding).bottom ≡ reach
-  either true = omega arith
-  either false = omega arith
+-- A box of lawful contents is lawful.
+pub Lawful-box_left : {C : Type 0} (strips : C → List Strip) (reach : C → ℕ) → ((c : C) → Lawful (strips c) (reach c)) → (b : PaddingBox C) → Lawful (box_left strips reach b) (box_reach strips reach b)
+Lawful-box_left strips reach lawful b =
+    let held = b.held.content in
+    let l = lawful held in
+    let by = box_padding strips reach b in
+    Lawful-by_place (padded by) (reach held) (box_reach strips reach b) (padded_lawful by (reach held)) b.held.begun (strips held) (padding_bounded (reach held) b.padding l.bounded) l

@@ -1,10 +1,9 @@
 // A box: padding round a content.
 ghost use Rattle.std.specs.Prelude.{◌≡◌, false, length, drop, if◌then◌else◌, nat_le};
-ghost use Rattle.layers.specs.Boxes.{PaddedBy, bare_padding, box_checked, box_left, box_reach, padded, box_padding};
+ghost use Rattle.layers.specs.Boxes.{PaddedBy, bare_padding, box_checked, box_left, box_reach};
 ghost use Rattle.layers.specs.Settled.{Settled};
 ghost use Rattle.layers.specs.Takes.{Taken};
-ghost use Rattle.layers.specs.PaddedStrips.{padded_lawful, padding_bounded};
-ghost use Rattle.layers.specs.LawfulChange.{Lawful-by_place};
+ghost use Rattle.layers.specs.PaddedStrips.{Lawful-box_left};
 
 use crate::faults::LayerFault;
 use crate::held::Held;
@@ -21,8 +20,8 @@ impl<C: Content> PaddingBox<C> {
     pub fn new(content: C) -> PaddingBox<C>
         ensures held { (result.held.content ≡ content) × (result.held.begun ≡ false) }
         ensures padding { result.padding ≡ bare_padding }
-        ensures left { box_left strips reach result ≡ strips content }
-        ensures reach { box_reach strips reach result ≡ reach content }
+        ensures left { box_left C.strips C.reach result ≡ C.strips content }
+        ensures reach { box_reach C.strips C.reach result ≡ C.reach content }
     {
         PaddingBox {
             held: Held::new(content),
@@ -32,7 +31,7 @@ impl<C: Content> PaddingBox<C> {
 
     // Sets the padding, or leaves the box as it was.
     pub fn set(&mut self, padding: Padding) -> Result<(), LayerFault>
-        ensures { Settled self.old self.new (box_checked self.old.held.begun (reach self.old.held.content) padding) (λ _. PaddedBy strips reach padding self.old self.new) result }
+        ensures { Settled self.old self.new (box_checked self.old.held.begun (C.reach self.old.held.content) padding) (λ _. PaddedBy C.strips C.reach padding self.old self.new) result }
     {
         self.check(padding)?;
         self.padding = padding;
@@ -40,7 +39,7 @@ impl<C: Content> PaddingBox<C> {
     }
 
     fn check(&self, padding: Padding) -> Result<(), LayerFault>
-        ensures { result ≡ box_checked self.now.held.begun (reach self.now.held.content) padding }
+        ensures { result ≡ box_checked self.now.held.begun (C.reach self.now.held.content) padding }
     {
         if self.held.begun() {
             return Err(LayerFault::Begun);
@@ -57,12 +56,7 @@ impl<C: Content> Content for PaddingBox<C> {
 
     ghost reach = { box_reach C.Content.strips C.Content.reach };
 
-    ghost lawful = { λ b.
-        let held = b.held.content in
-        let reach = C.Content.reach held in
-        let l = C.Content.lawful held in
-        let by = box_padding C.Content.strips C.Content.reach b in
-        Lawful-by_place (padded by) reach _ (padded_lawful by reach) b.held.begun (C.Content.strips held) (padding_bounded reach b.padding l.bounded) l };
+    ghost lawful = { Lawful-box_left C.Content.strips C.Content.reach C.Content.lawful };
 
     fn reach(&self) -> u32 {
         let reach = self.held.reach();

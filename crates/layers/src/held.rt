@@ -41,15 +41,15 @@ impl<C: Content> Held<C> {
     }
 
     pub(crate) fn reach(&self) -> u32
-        ensures value { result ≡ reach self.now.content }
+        ensures value { result ≡ C.reach self.now.content }
         ensures bounded { result ≤ 200000 }
     {
         self.content.reach()
     }
 
     pub(crate) fn count(&self) -> u32
-        ensures value { result ≡ length (strips self.now.content) }
-        ensures through { (f : Change) → result ≡ length (by_place f self.now.begun (strips self.now.content)) }
+        ensures value { result ≡ length (C.strips self.now.content) }
+        ensures through { (f : Change) → result ≡ length (by_place f self.now.begun (C.strips self.now.content)) }
         ensures few { result ≤ 1000000 }
     {
         self.content.count()
@@ -57,21 +57,21 @@ impl<C: Content> Held<C> {
 
     // Strip i of those left, as the content has it.
     pub(crate) fn strip(&self, i: u32) -> Option<Strip>
-        ensures { result ≡ slice_get (strips self.now.content) i }
+        ensures { result ≡ slice_get (C.strips self.now.content) i }
     {
         self.content.strip(i)
     }
 
     // Strip i of those left, and where it stands.
     pub(crate) fn at(&self, i: u32) -> Option<Placed>
-        ensures { MatchOption result ((f : Change) → slice_get (by_place f self.now.begun (strips self.now.content)) i ≡ None) (λ p. Within 200000 p.strip × ((f : Change) → slice_get (by_place f self.now.begun (strips self.now.content)) i ≡ Some (f p.first p.last p.strip))) }
+        ensures { MatchOption result ((f : Change) → slice_get (by_place f self.now.begun (C.strips self.now.content)) i ≡ None) (λ p. Within 200000 p.strip × ((f : Change) → slice_get (by_place f self.now.begun (C.strips self.now.content)) i ≡ Some (f p.first p.last p.strip))) }
     {
         let strip = self.content.strip(i)?;
         Some(self.placed(i, strip))
     }
 
     fn placed(&self, i: u32, strip: Strip) -> Placed
-        ensures { result ≡ record { strip = strip; first = first_at self.now.begun i; last = last_at (length (strips self.now.content)) i } }
+        ensures { result ≡ record { strip = strip; first = first_at self.now.begun i; last = last_at (length (C.strips self.now.content)) i } }
     {
         Placed {
             strip,
@@ -82,17 +82,17 @@ impl<C: Content> Held<C> {
 
     // Takes k strips through the layer, or says no where fewer are left.
     pub(crate) fn take(&mut self, k: u32) -> bool
-        ensures taken { Taken k result self.old.begun (strips self.old.content) self.new.begun (strips self.new.content) }
-        ensures through { TakenThrough k result self.old.begun (strips self.old.content) self.new.begun (strips self.new.content) }
-        ensures reach { reach self.new.content ≡ reach self.old.content }
+        ensures taken { Taken k result self.old.begun (C.strips self.old.content) self.new.begun (C.strips self.new.content) }
+        ensures through { TakenThrough k result self.old.begun (C.strips self.old.content) self.new.begun (C.strips self.new.content) }
+        ensures reach { C.reach self.new.content ≡ C.reach self.old.content }
     {
         self.advance(k)
     }
 
     // The take itself. `take` adds what it means for the lists that layers make.
     fn advance(&mut self, k: u32) -> bool
-        ensures taken { Taken k result self.old.begun (strips self.old.content) self.new.begun (strips self.new.content) }
-        ensures reach { reach self.new.content ≡ reach self.old.content }
+        ensures taken { Taken k result self.old.begun (C.strips self.old.content) self.new.begun (C.strips self.new.content) }
+        ensures reach { C.reach self.new.content ≡ C.reach self.old.content }
     {
         let done = self.content.take(k);
         self.begun = self.begun || (done && 0 < k);

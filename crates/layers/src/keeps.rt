@@ -2,8 +2,7 @@
 ghost use Rattle.std.specs.Prelude.{◌≡◌, false};
 ghost use Rattle.layers.specs.Keeps.{kept, keep_left};
 ghost use Rattle.layers.specs.Places.{by_place};
-ghost use Rattle.layers.specs.KeptStrips.{kept_lawful};
-ghost use Rattle.layers.specs.LawfulChange.{Lawful-by_place};
+ghost use Rattle.layers.specs.KeptStrips.{Lawful-keep_left};
 
 use crate::held::{Held, Placed};
 use content::{Content, Rank, Strip};
@@ -16,7 +15,7 @@ pub struct Keep<C> {
 impl<C: Content> Keep<C> {
     pub fn new(content: C) -> Keep<C>
         ensures held { (result.held.content ≡ content) × (result.held.begun ≡ false) }
-        ensures left { keep_left strips result ≡ by_place kept false (strips content) }
+        ensures left { keep_left C.strips result ≡ by_place kept false (C.strips content) }
     {
         Keep {
             held: Held::new(content),
@@ -43,11 +42,7 @@ impl<C: Content> Content for Keep<C> {
 
     ghost reach = { λ k. C.Content.reach k.held.content };
 
-    ghost lawful = { λ k.
-        let held = k.held.content in
-        let reach = C.Content.reach held in
-        let l = C.Content.lawful held in
-        Lawful-by_place kept reach reach (kept_lawful reach) k.held.begun (C.Content.strips held) l.bounded l };
+    ghost lawful = { Lawful-keep_left C.Content.strips C.Content.reach C.Content.lawful };
 
     fn reach(&self) -> u32 {
         self.held.reach()

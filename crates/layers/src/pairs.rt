@@ -5,7 +5,7 @@ ghost use Rattle.layers.specs.declared.joints.Joint.{Joint};
 ghost use Rattle.layers.specs.Pairs.{JoinedBy, PartsLeft, both_left, joint_over, linked_count, pair_begun, pair_checked, pair_joint, pair_left, pair_reach};
 ghost use Rattle.layers.specs.Settled.{Settled};
 ghost use Rattle.layers.specs.TwoLists.{Beyond, Inside};
-ghost use Rattle.layers.specs.JoinedParts.{linked_lawful};
+ghost use Rattle.layers.specs.JoinedParts.{Lawful-pair_left};
 
 use crate::faults::LayerFault;
 use crate::held::Held;
@@ -146,10 +146,7 @@ impl<A: Content, B: Content> Content for Pair<A, B> {
 
     ghost reach = { pair_reach A.Content.strips B.Content.strips A.Content.reach B.Content.reach };
 
-    ghost lawful = { λ p.
-        let first = p.first.content in
-        let second = p.second.content in
-        linked_lawful (A.Content.strips first) (B.Content.strips second) p.second.begun (A.Content.reach first) (B.Content.reach second) (A.Content.lawful first) (B.Content.lawful second) p.joint };
+    ghost lawful = { Lawful-pair_left A.Content.strips B.Content.strips A.Content.reach B.Content.reach A.Content.lawful B.Content.lawful };
 
     fn reach(&self) -> u32 {
         let first = self.first.reach();

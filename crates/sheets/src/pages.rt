@@ -26,9 +26,9 @@ impl Page {
 
 // Takes the next page off a content. With nothing left it has no strips.
 pub fn next_page<C: Content>(content: &mut C, form: u32) -> Page
-    ensures page { result ≡ page_of form (strips content.old) }
-    ensures rest { strips content.new ≡ drop (choice form (strips content.old)).0 (strips content.old) }
-    ensures reach { reach content.new ≡ reach content.old }
+    ensures page { result ≡ page_of form (C.strips content.old) }
+    ensures rest { C.strips content.new ≡ drop (choice form (C.strips content.old)).0 (C.strips content.old) }
+    ensures reach { C.reach content.new ≡ C.reach content.old }
 {
     let (count, rank, height) = page_end(content, form);
     let bales = bales_from(content, 0, count);
@@ -43,8 +43,8 @@ pub fn next_page<C: Content>(content: &mut C, form: u32) -> Page
 
 // Where the next page ends.
 fn page_end<C: Content>(content: &C, form: u32) -> (u32, Rank, u32)
-    ensures value { result ≡ choice form (strips content.now) }
-    ensures few { result.0 ≤ length (strips content.now) }
+    ensures value { result ≡ choice form (C.strips content.now) }
+    ensures few { result.0 ≤ length (C.strips content.now) }
 {
     choose(content, 0, content.count(), form)
 }

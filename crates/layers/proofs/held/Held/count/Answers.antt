@@ -1,12 +1,8 @@
-use Rattle.std.proofs.Common.{sym, ◌∙◌, arith}
+use Rattle.std.proofs.Common.{sym, ◌∙◌}
 use Rattle.layers.specs.PlacesLemmas.{length-by_place}
 use Rattle.layers.proofs.held.Held.count.Goals as goal
 
-pub returns : goal.returns
-returns g c =
+pub returns-clause-through : goal.returns-clause-through
+returns-clause-through g c f =
     let held = c.args.self.now in
-    record {
-      value = c.count.ensures;
-      through = λ f. c.count.ensures ∙ sym (length-by_place f held.begun (g.C.Content.strips held.content));
-      few = omega (arith, c.count.ensures, (g.met.C.Content.lawful held.content).few);
-    }
+    c.count.ensures ∙ sym (length-by_place f held.begun (g.C.Content.strips held.content))

@@ -1,0 +1,46 @@
+-- How many strips joined parts have, and what a join answers.
+use Rattle.std.specs.Prelude.{◌≡◌, ℕ, ◌+◌, Bool, true, false, cond, List, length, is_some, Some, None, Ok, Err, Option, Result, MatchResult, refl}
+use Rattle.std.proofs.Common.{ap, subst, ◌∙◌}
+use Rattle.std.proofs.lemmas.List.{length-append}
+use Rattle.std.proofs.lemmas.Bool.{false≢true}
+use Rattle.content.specs.declared.strips.Strip.{Strip}
+use Rattle.layers.specs.declared.faults.LayerFault.{LayerFault}
+use Rattle.layers.specs.declared.faults.LayerFault.TheVariants.{Begun, PairLimit}
+use Rattle.layers.specs.declared.joints.BreakWord.{BreakWord}
+use Rattle.layers.specs.declared.joints.BreakWord.TheVariants.{Auto, Avoid, Force}
+use Rattle.layers.specs.declared.joints.Joint.{Joint}
+use Rattle.layers.specs.declared.pairs.Pair.{Pair}
+use Rattle.layers.specs.Places.{by_place}
+use Rattle.layers.specs.Settled.{Settled}
+use Rattle.layers.specs.Pairs.{JoinedBy, joined, joint_checked, joint_fits, linked, linked_count, pair_begun, pair_checked, word_number, word_of}
+use Rattle.layers.specs.PlacesLemmas.{length-by_place}
+
+module _ (xs ys : List Strip) (begun : Bool) where
+  pub linked_length : (j : Option Joint) → length (linked j xs begun ys) ≡ linked_count j (length xs) (length ys)
+  linked_length None = refl
+  linked_length (Some by) = length-append xs (by_place (joined by) begun ys) ∙ ap (λ n. length xs + n) (length-by_place (joined by) begun ys)
+
+pub counts_both : (j : Option Joint) (m n : ℕ) → is_some j ≡ true → linked_count j m n ≡ m + n
+counts_both None m n some = absurd (false≢true some)
+counts_both (Some by) m n some = refl
+
+pub word_of_number : (word : BreakWord) → word_of (word_number word) ≡ Some word
+word_of_number Auto = refl
+word_of_number Avoid = refl
+word_of_number Force = refl
+
+-- What a join answers where the number is a word's and nothing was taken before.
+module _ {A B : Type 0} (first : A → List Strip) (second : B → List Strip) (before after : Pair A B) (m n number : ℕ) (by : Joint) (r : Result (Unit {0}) LayerFault) where
+  abbrev Joins : Result Joint LayerFault → Type 0
+  Joins checked = Settled before after checked (λ j. JoinedBy first second j before after) r
+
+  pub joins : word_of number ≡ Some by.word → pair_begun before ≡ false → Joins (pair_checked (pair_begun before) m n number by.gap) → MatchResult r (λ _. JoinedBy first second by before after) (λ e. joint_fits m n by ≡ false)
+  joins named whole settled = either (joint_fits m n by) refl r (subst Joins checked settled) where
+    checked : pair_checked (pair_begun before) m n number by.gap ≡ cond (joint_fits m n by) (Ok by) (Err PairLimit)
+    checked = ap (λ b. cond b (Err Begun) (joint_checked m n by.gap (word_of number))) whole ∙ ap (joint_checked m n by.gap) named
+
+    either : (b : Bool) → joint_fits m n by ≡ b → (r : Result (Unit {0}) LayerFault) → Settled before after (cond b (Ok by) (Err PairLimit)) (λ j. JoinedBy first second j before after) r → MatchResult r (λ _. JoinedBy first second by before after) (λ e. joint_fits m n by ≡ false)
+    either true fits (Ok _) h = h
+    either true fits (Err e) h = absurd h
+    either false over (Ok _) h = absurd h
+    either false over (Err e) h = over
