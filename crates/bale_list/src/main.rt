@@ -14,7 +14,7 @@ fn read_forms(rt: &HostRuntime, heap: Global) -> anyhow::Result<Forms> {
     let mut heights = Vec::new(heap);
     for text in env::args(rt)?.skip(1) {
         let Some(height) = form_height(text.as_str()) else {
-            return Err(no_height(heap, text.as_str())?.into());
+            return Err(anyhow!(no_height(heap, text.as_str())?));
         };
         heights.push(height)?;
     }
