@@ -1,5 +1,5 @@
 -- The choice of a page end.
-use Rattle.std.specs.Prelude.{ℕ, Bool, cond, ◌&&◌, ◌||◌, leb, List, [], ◌∷◌, take, drop, filter, nat_le, nat_lt}
+use Rattle.std.specs.Prelude.{ℕ, Bool, cond, ◌&&◌, ◌||◌, List, [], ◌∷◌, take, drop, filter, nat_le, nat_lt}
 use Rattle.std.specs.List.{range_with_len, best_of}
 use Rattle.content.specs.declared.ranks.Rank.{Rank}
 use Rattle.content.specs.declared.ranks.Rank.TheVariants.{Free}
@@ -20,7 +20,7 @@ fitting page xs m = filter (fits page xs) (range_with_len 1 m)
 -- Of stops in order, the lowest rank, and of those the farthest; where there is none, stop 1.
 abbrev pub lowest_farthest : List Strip → List ℕ → ℕ
 lowest_farthest xs [] = 1
-lowest_farthest xs (k ∷ ks) = best_of (λ j b. leb (rank_number (stop_rank xs j)) (rank_number (stop_rank xs b))) k ks
+lowest_farthest xs (k ∷ ks) = best_of (λ j b. nat_le (rank_number (stop_rank xs j)) (rank_number (stop_rank xs b))) k ks
 
 -- Strips, rank and height of a stop.
 abbrev pub Stop : Type 0

@@ -1,5 +1,5 @@
 -- The rows of a group, and what is checked of them.
-use Rattle.std.specs.Prelude.{ℕ, ◌+◌, ◌<◌, ◌≤◌, List, [], ◌∷◌, length, get_or, Ok, slice_index_or}
+use Rattle.std.specs.Prelude.{ℕ, ◌+◌, ◌<◌, ◌≤◌, List, [], ◌∷◌, length, Ok, slice_index_or}
 use Rattle.content.specs.declared.ranks.Rank.TheVariants.{Free}
 use Rattle.content.specs.declared.strips.Strip.{Strip}
 use Rattle.pieces.specs.declared.faults.PieceFault.TheVariants.{Field, RowHeight, RowBales}
@@ -7,7 +7,7 @@ use Rattle.pieces.specs.declared.rows.Row.{Row}
 use Rattle.pieces.specs.Ranges.{Checked, in_range, then}
 use Rattle.pieces.specs.Strips.{bare, each_part}
 
--- What `get_or` reads past the end of a list of rows.
+-- What `slice_index_or` reads past the end of a list of rows.
 abbrev pub no_row : Row
 no_row = record { height = 0; bales = 0 }
 
@@ -34,7 +34,7 @@ abbrev pub rows_checked : ℕ → List Row → Checked
 rows_checked block rows = then (in_range 1 4096 (length rows) (Field block 1)) (each_row block 0 rows)
 
 abbrev pub row_strip : ℕ → List Row → ℕ → Strip
-row_strip block rows i = bare block i (get_or rows i no_row).height (get_or rows i no_row).bales Free
+row_strip block rows i = bare block i (slice_index_or rows i no_row).height (slice_index_or rows i no_row).bales Free
 
 abbrev pub row_strips : ℕ → List Row → List Strip
 row_strips block rows = each_part (row_strip block rows) (length rows)
