@@ -152,7 +152,7 @@ fn row_numbers(rt: HostRuntime) -> Result<(), Fail> {
                 height: 0,
                 bales: 0,
             },
-        ],),
+        ]),
         Err(PieceFault::RowBales { node: 5, row: 0 })
     );
     assert_eq!(rt;
