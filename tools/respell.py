@@ -6,7 +6,7 @@ usage: python3 tools/respell.py [FOLDER]
 FOLDER is a checkout (by default the one that the script lies in). A row of names.tsv is an old name, a tab and the new one.
 A definition, a field and a lemma are in snake case, a fact is in camel case, and a dash joins two names in the name of a lemma.
 It turns whole words of the specs and proofs, of the clauses, ghost lines and comments of the sources, and code spans of the documents.
-A second run changes nothing, since no new name is an old one.
+A second run changes nothing, since no new name is an old one. docs/PORT.md stays: it has the old names on purpose.
 """
 
 import os
@@ -40,7 +40,7 @@ def main(argv):
         dirs[:] = sorted(d for d in dirs if d not in (".git", "out", "target", "tools"))
         for name in sorted(files):
             path = os.path.join(folder, name)
-            if not name.endswith((".rt", ".antt", ".md", ".edit")):
+            if name == "PORT.md" or not name.endswith((".rt", ".antt", ".md", ".edit")):
                 continue
             with open(path, encoding="utf-8") as f:
                 text = f.read()
