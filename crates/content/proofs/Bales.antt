@@ -2,12 +2,13 @@
 use Rattle.std.proofs.Common.{◌≡◌, ℕ, ◌+◌, ◌-◌, ◌*◌, ◌≤◌, ◌⊎◌, List, length, take, drop, Some, sym, ap, ◌∙◌, inl, inr, arith}
 use Rattle.std.specs.List.{slice_get, AllByRecursion}
 use Rattle.std.proofs.lemmas.List.{length-take, length-drop, take_all}
+use Rattle.std.proofs.lemmas.Option.{slice_get_within, get_or_from_slice_get}
 use Rattle.std.proofs.lemmas.List.Sums.{sum_by_more}
 use Rattle.std.proofs.ByRecursion.{sum_by_le, All-weaker, All-take, All-drop}
 use Rattle.content.specs.declared.strips.Strip.{Strip}
 use Rattle.content.specs.Strips.{blank, bales_of}
 use Rattle.content.specs.Laws.{Within, Lawful}
-use Rattle.content.proofs.Nth.{some_inside, some_reads, slice_get-drop}
+use Rattle.content.proofs.Nth.{slice_get-drop}
 
 module _ (xs : List Strip) (from i : ℕ) where
   abbrev pub passed : ℕ → List Strip
@@ -20,8 +21,8 @@ module _ (xs : List Strip) (from i : ℕ) where
       let here : slice_get (drop from xs) k ≡ Some s = slice_get-drop from xs k ∙ ap (slice_get xs) next ∙ read in
       let one : (i + 1) - from ≡ k + 1 = omega arith in
       ap (λ j. bales_of (take j (drop from xs))) one
-      ∙ sum_by_more (λ s. s.bales) (drop from xs) k blank (some_inside (drop from xs) k s here)
-      ∙ ap (λ t. bales_of (take k (drop from xs)) + t.bales) (some_reads (drop from xs) k s blank here)
+      ∙ sum_by_more (λ s. s.bales) (drop from xs) k blank (slice_get_within (drop from xs) k s here)
+      ∙ ap (λ t. bales_of (take k (drop from xs)) + t.bales) (get_or_from_slice_get (drop from xs) k s blank here)
 
   pub bales_bounded : (reach : ℕ) → Lawful xs reach → bales_of (passed i) ≤ 1000000 * 200000
   bales_bounded reach l =

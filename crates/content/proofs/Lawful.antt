@@ -28,8 +28,8 @@ module _ (n : ℕ) (xs : List Strip) where
   }
 
 -- A larger reach bounds what a smaller one does.
-pub within_wider : (low high : ℕ) (s : Strip) → low ≤ high → Within low s → Within high s
-within_wider low high s h w = record {
+pub Within_wider : (low high : ℕ) (s : Strip) → low ≤ high → Within low s → Within high s
+Within_wider low high s h w = record {
   some_height = w.some_height;
   height_within = omega arith;
   lead_within = omega arith;
@@ -38,20 +38,20 @@ within_wider low high s h w = record {
   bales_within = omega arith;
 }
 
-all_bounded : (reach : ℕ) (xs : List Strip) (i : ℕ) → reach ≤ 200000 → AllByRecursion (Within reach) xs → Bounded (slice_get xs i)
-all_bounded reach [] i h all = tt
-all_bounded reach (x ∷ xs) zero h all = within_wider reach 200000 x h all.0
-all_bounded reach (x ∷ xs) (suc i) h all = all_bounded reach xs i h all.1
+Bounded-from_all : (reach : ℕ) (xs : List Strip) (i : ℕ) → reach ≤ 200000 → AllByRecursion (Within reach) xs → Bounded (slice_get xs i)
+Bounded-from_all reach [] i h all = tt
+Bounded-from_all reach (x ∷ xs) zero h all = Within_wider reach 200000 x h all.0
+Bounded-from_all reach (x ∷ xs) (suc i) h all = Bounded-from_all reach xs i h all.1
 
 -- A strip that was read keeps the laws' bounds.
-pub read_bounded : (reach : ℕ) (xs : List Strip) (i : ℕ) → Lawful xs reach → Bounded (slice_get xs i)
-read_bounded reach xs i l = all_bounded reach xs i l.bounded l.each
+pub Bounded-slice_get : (reach : ℕ) (xs : List Strip) (i : ℕ) → Lawful xs reach → Bounded (slice_get xs i)
+Bounded-slice_get reach xs i l = Bounded-from_all reach xs i l.bounded l.each
 
 pub Lawful_wider : (low high : ℕ) (xs : List Strip) → low ≤ high → high ≤ 200000 → Lawful xs low → Lawful xs high
 Lawful_wider low high xs h bounded l = record {
   few = l.few;
   bounded = bounded;
-  each = All-weaker (Within low) (Within high) (λ s w. within_wider low high s h w) xs l.each;
+  each = All-weaker (Within low) (Within high) (λ s w. Within_wider low high s h w) xs l.each;
   tails = l.tails;
   last = l.last;
 }

@@ -1,4 +1,4 @@
-// What is paged: strips, and contents that hold them.
+//! What is paged: strips, and contents that hold them.
 #![tactic(auto)]
 
 mod contents;

@@ -1,29 +1,22 @@
-// How good it is to break a page just before a strip.
 ghost use Rattle.std.specs.Prelude.{◌≡◌, Some};
 ghost use Rattle.content.specs.Ranks.{rank_number, rank_words};
 
 use std::fmt;
 
-// The grades in order, the best to break at first: their numbers are 0 to 3.
+/// How good it is to break a page just before a strip, the best first: the numbers are 0 to 3.
 #[derive(Clone, Copy, PartialEq, Eq, PartialOrd, Ord, Debug)]
 pub enum Rank {
-    // the page has to end here
+    /// The page has to end here.
     Forced,
-    // nothing speaks against it
+    /// Nothing speaks against it.
     Free,
-    // it would leave fewer lines than the orphans or widows asked for
+    /// It would leave fewer lines than the orphans or widows asked for.
     AgainstOrphansOrWidows,
-    // a box or a neighbour asked to avoid it
+    /// A box or a neighbour asked to avoid it.
     AgainstAvoid,
 }
 
 impl Rank {
-    pub fn number(self) -> u8
-        ensures { result ≡ rank_number self }
-    {
-        self as u8
-    }
-
     pub fn words(self) -> &'static str
         ensures { result.now ≡ rank_words self }
     {
@@ -33,6 +26,14 @@ impl Rank {
             Rank::AgainstOrphansOrWidows => "against orphans or widows",
             Rank::AgainstAvoid => "against an avoid",
         }
+    }
+}
+
+impl From<Rank> for u8 {
+    ghost from_gives = { λ rank n. n ≡ rank_number rank };
+
+    fn from(rank: Rank) -> u8 {
+        rank as u8
     }
 }
 

@@ -5,7 +5,7 @@ ghost use Rattle.content.specs.Strips.{bales_of};
 use crate::contents::Content;
 use crate::strips::Strip;
 
-// The bales of k strips, the first of them strip `from` of those left, or of as many as there are.
+/// The bales of k strips, the first of them strip `from` of those left, or of as many as there are.
 pub fn bales_from<C: Content>(content: &C, from: u32, k: u32) -> u64
     ensures { result ≡ bales_of (take k (drop from (C.strips content.now))) }
 {

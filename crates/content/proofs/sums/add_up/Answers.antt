@@ -1,7 +1,7 @@
 use Rattle.std.proofs.Common.{◌≡◌, ◌+◌, ◌≤◌, ◌⊎◌, length, sym, ap, ◌∙◌, inl, inr, arith}
 use Rattle.std.proofs.lemmas.Bool.{cases_lt}
 use Rattle.content.specs.Strips.{bales_of}
-use Rattle.content.proofs.Nth.{none_outside}
+use Rattle.content.proofs.Nth.{slice_get_outside}
 use Rattle.content.proofs.Bales.{bales_more, bales_bounded, all_passed}
 use Rattle.content.proofs.sums.add_up.Goals as goal
 
@@ -22,7 +22,7 @@ loop-i-preserved g c =
 pub returns-in_default : goal.returns-in_default
 returns-in_default g c =
     let xs = g.C.Content.strips c.args.content.now in
-    let out = none_outside xs c.loop-i.i (sym c.strip.ensures ∙ c.in_default.is) in
+    let out = slice_get_outside xs c.loop-i.i (sym c.strip.ensures ∙ c.in_default.is) in
     c.loop-i.invariant ∙ ap bales_of (all_passed xs c.args.from c.loop-i.i c.args.k (omega arith) (inr out))
 
 pub returns-after-loop-i : goal.returns-after-loop-i
