@@ -5,7 +5,7 @@ use Rattle.std.proofs.lemmas.List.{take-take, drop-take, get_or-drop, length-dro
 use Rattle.std.proofs.lemmas.List.Sums.{sum_by_more, sum_by-take-le}
 use Rattle.content.specs.declared.strips.Strip.{Strip}
 use Rattle.content.specs.Strips.{blank}
-use Rattle.content.proofs.Nth.{some_inside, some_reads}
+use Rattle.std.proofs.lemmas.Option.{slice_get_within, get_or_from_slice_get}
 use Rattle.choice.specs.Stops.{body, stop_height}
 
 -- A sum over the first strips grows.
@@ -25,8 +25,8 @@ module _ (xs : List Strip) where
 
   pub body_more : (k : ℕ) (s : Strip) → 1 ≤ k → slice_get xs k ≡ Some s → body xs (k + 1) ≡ body xs k + (s.lead + s.height)
   body_more k s some read =
-      let inside = some_inside xs k s read in
-      let here = some_reads xs k s blank read in
+      let inside = slice_get_within xs k s read in
+      let here = get_or_from_slice_get xs k s blank read in
       let tall = sum_by_more (λ s. s.height) xs k blank inside ∙ ap (λ t. sum_by (λ s. s.height) (take k xs) + t.height) here in
       let rest = drop 1 xs in
       let back : (k + 1) - 1 ≡ (k - 1) + 1 = omega arith in
@@ -40,11 +40,11 @@ module _ (xs : List Strip) where
 
   pub body_first : (s : Strip) → slice_get xs 0 ≡ Some s → body xs 1 ≡ s.head + s.height
   body_first s read =
-      let here = some_reads xs 0 s blank read in
-      let tall = sum_by_more (λ s. s.height) xs 0 blank (some_inside xs 0 s read) ∙ ap (λ t. 0 + t.height) here in
+      let here = get_or_from_slice_get xs 0 s blank read in
+      let tall = sum_by_more (λ s. s.height) xs 0 blank (slice_get_within xs 0 s read) ∙ ap (λ t. 0 + t.height) here in
       omega (arith, ap (λ t. t.head) here, tall, leads_are 1 (omega arith))
 
   pub height_at : (k : ℕ) (s : Strip) → slice_get xs k ≡ Some s → stop_height xs (k + 1) ≡ body xs (k + 1) + s.tail
   height_at k s read =
       let back : (k + 1) - 1 ≡ k = omega arith in
-      ap (λ t. body xs (k + 1) + t.tail) (ap (λ i. get_or xs i blank) back ∙ some_reads xs k s blank read)
+      ap (λ t. body xs (k + 1) + t.tail) (ap (λ i. get_or xs i blank) back ∙ get_or_from_slice_get xs k s blank read)

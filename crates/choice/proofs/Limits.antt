@@ -2,11 +2,11 @@
 use Rattle.std.proofs.Common.{◌≡◌, ℕ, zero, suc, ◌+◌, ◌<◌, ◌≤◌, Bool, true, false, not, ◌≢◌, ◌⊎◌, List, [], ◌∷◌, length, None, refl, ap, ◌∙◌, inl, inr, one-add, arith}
 use Rattle.std.specs.List.{slice_get, prefix_len}
 use Rattle.std.proofs.lemmas.List.Sums.{prefix_len-le-length}
-use Rattle.std.proofs.lemmas.Bool.{both_ways, not-true, not-false, cond-true, cond-false, cases_lt}
+use Rattle.std.proofs.lemmas.Bool.{cond-true, cond-false, cases_lt}
 use Rattle.content.specs.declared.ranks.Rank.{Rank}
 use Rattle.content.specs.declared.ranks.Rank.TheVariants.{Forced, Free, AgainstOrphansOrWidows, AgainstAvoid}
 use Rattle.content.specs.declared.strips.Strip.{Strip}
-use Rattle.content.proofs.Nth.{none_outside}
+use Rattle.content.proofs.Nth.{slice_get_outside}
 use Rattle.choice.specs.Stops.{rank_before, stop_rank, IsLimit, is_forced, limit}
 
 abbrev pub unforced : Strip → Bool
@@ -18,12 +18,6 @@ told Forced = inl (refl, refl)
 told Free = inr (refl, λ e. let z : ◌≡◌ {A = ℕ} 0 1 = cc in omega arith)
 told AgainstOrphansOrWidows = inr (refl, λ e. let z : ◌≡◌ {A = ℕ} 0 1 = cc in omega arith)
 told AgainstAvoid = inr (refl, λ e. let z : ◌≡◌ {A = ℕ} 0 1 = cc in omega arith)
-
-pub forced_is : (r : Rank) → is_forced r ≡ true → r ≡ Forced
-forced_is r e = elim (told r) [ inl p ↦ p.1 | inr p ↦ absurd (both_ways (is_forced r) (not-true (is_forced r) p.0) e) ]
-
-pub unforced_is : (r : Rank) → is_forced r ≡ false → r ≢ Forced
-unforced_is r e = elim (told r) [ inl p ↦ absurd (both_ways (is_forced r) e (not-false (is_forced r) p.0)) | inr p ↦ p.1 ]
 
 module _ (x : Strip) (xs : List Strip) where
   run_ends : unforced x ≡ false → prefix_len unforced (x ∷ xs) ≡ 0
@@ -74,7 +68,7 @@ module _ (xs : List Strip) (m k : ℕ) (is : IsLimit xs m) (some : 1 ≤ k) (nea
   limit_at_forced forced = elim (cases_lt k m) [ inl h ↦ absurd (is.least k some h forced) | inr h ↦ omega arith ]
 
   pub limit_at_end : slice_get xs k ≡ None → k ≡ m
-  limit_at_end none = omega (arith, is.within, none_outside xs k none)
+  limit_at_end none = omega (arith, is.within, slice_get_outside xs k none)
 
   pub limit_past : stop_rank xs k ≢ Forced → k < length xs → k < m
   limit_past free inside = elim (cases_lt k m) [

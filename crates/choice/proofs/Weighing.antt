@@ -1,16 +1,17 @@
 -- Weighing the stops in turn: what holds when the first k are weighed.
-use Rattle.std.proofs.Common.{◌≡◌, ℕ, ◌+◌, ◌-◌, ◌<◌, ◌≤◌, Bool, true, false, cond, ◌≢◌, ◌⊎◌, List, [], ◌∷◌, length, Some, None, Option, sym, refl, ap, ◌∙◌, inl, inr, arith}
+use Rattle.std.proofs.Common.{◌≡◌, ℕ, ◌+◌, ◌-◌, ◌<◌, ◌≤◌, Bool, true, false, cond, ltb, leb, ◌&&◌, ◌||◌, ◌≢◌, ◌⊎◌, List, [], ◌∷◌, Some, None, Option, sym, refl, ap, ◌∙◌, inl, inr, arith}
+use Rattle.std.proofs.lemmas.Bool.{cases_lt, leb-true}
+use Rattle.content.specs.Ranks.{rank_number}
 use Rattle.std.specs.List.{slice_get}
 use Rattle.content.specs.declared.ranks.Rank.TheVariants.{Forced}
 use Rattle.content.specs.declared.strips.Strip.{Strip}
-use Rattle.content.specs.Laws.{Within}
-use Rattle.content.proofs.Nth.{some_inside}
+use Rattle.std.proofs.lemmas.Option.{slice_get_within}
 use Rattle.choice.specs.Stops.{rank_before, stop_rank, body, stop_height, IsLimit, limit}
 use Rattle.choice.specs.Choice.{Stop, stop_at, choice, better}
 use Rattle.content.specs.Bounds.{Bounded}
-use Rattle.choice.proofs.Limits.{limit_is, some_stop, limit_at_forced, limit_at_end, limit_past}
-use Rattle.choice.proofs.Heights.{body_first, body_more, body_grows, height_at}
-use Rattle.choice.proofs.Picks.{pick, pick_one, pick_more, pick_rest}
+use Rattle.choice.proofs.Limits.{limit_is, limit_at_forced, limit_at_end, limit_past}
+use Rattle.choice.proofs.Heights.{body_more, body_grows, height_at}
+use Rattle.choice.proofs.Picks.{pick, pick_more, pick_rest}
 
 carried : {A B : Type 0} (f : A → B) (b : Bool) (x y : A) → cond b (f x) (f y) ≡ f (cond b x y)
 carried f true x y = refl
@@ -31,6 +32,14 @@ has_limit : (xs : List Strip) → 1 ≤ limit xs → IsLimit xs (limit xs)
 has_limit [] h = absurd (omega arith)
 has_limit (x ∷ xs) h = limit_is x xs
 
+-- A stop that fits a page is as low as that.
+better_narrow : (page : ℕ) (nearer farther new : Stop) → page < 4294967296 → nearer.2 ≤ 4294967295 → new ≡ better page nearer farther → new.2 ≤ 4294967295
+better_narrow page nearer farther new h low is = rw is (either (leb farther.2 page) refl (ltb page nearer.2 || leb (rank_number farther.1) (rank_number nearer.1))) where
+  either : (b : Bool) → leb farther.2 page ≡ b → (c : Bool) → (cond (b && c) farther nearer).2 ≤ 4294967295
+  either true fits true = omega (arith, leb-true farther.2 page fits)
+  either true fits false = low
+  either false over c = low
+
 -- The first k strips are weighed: their height without the tail, the strip after them, and the best stop so far.
 pub record Weighed (page : ℕ) (xs : List Strip) (k tall : ℕ) (next : Option Strip) (best : Stop) : Type 0 where
   pub some : 1 ≤ k
@@ -40,21 +49,7 @@ pub record Weighed (page : ℕ) (xs : List Strip) (k tall : ℕ) (next : Option 
   pub is_next : next ≡ slice_get xs k
   pub bounded : Bounded next
   pub is_best : best ≡ stop_at xs (pick page xs k)
-
-module _ (page : ℕ) (xs : List Strip) (s : Strip) {tall : ℕ} {next : Option Strip} {best : Stop} where
-  pub weighing_starts : slice_get xs 0 ≡ Some s → Within 200000 s → tall ≡ s.head + s.height → next ≡ slice_get xs 1 → Bounded next → best ≡ stop_by 1 next (s.head + s.height + s.tail) → Weighed page xs 1 tall next best
-  weighing_starts read small opens is_next bounded is_best = record {
-    some = omega arith;
-    within = some_stop xs (some_inside xs 0 s read);
-    is_body = omega (arith, body_first xs s read);
-    bound = omega (arith, small.head_within, small.height_within);
-    is_next = is_next;
-    bounded = bounded;
-    is_best =
-        is_best
-        ∙ stop_is xs 1 next (s.head + s.height + s.tail) is_next (omega (arith, height_at xs 0 s read, body_first xs s read))
-        ∙ ap (stop_at xs) (sym (pick_one page xs));
-  }
+  pub narrow : best.2 ≤ 4294967295
 
 module _ {page : ℕ} {xs : List Strip} {k tall : ℕ} {old : Option Strip} {best : Stop} (w : Weighed page xs k tall old best) where
   limit_here : IsLimit xs (limit xs)
@@ -78,27 +73,28 @@ module _ {page : ℕ} {xs : List Strip} {k tall : ℕ} {old : Option Strip} {bes
     rank_here : stop_rank xs k ≡ s.rank
     rank_here = ap rank_before read
 
-    pub weighing_goes_past : s.rank ≢ Forced → k < limit xs
-    weighing_goes_past free = limit_past xs (limit xs) k limit_here w.some w.within (λ e. free (sym rank_here ∙ e)) (some_inside xs k s read)
+    goes_past : s.rank ≢ Forced → k < limit xs
+    goes_past free = limit_past xs (limit xs) k limit_here w.some w.within (λ e. free (sym rank_here ∙ e)) (slice_get_within xs k s read)
 
-    pub weighing_within : s.rank ≢ Forced → k + 1 ≤ length xs
-    weighing_within free = omega (arith, weighing_goes_past free, limit_here.within)
-
-    pub weighing_goes_on : {next : Option Strip} {farther new : Stop} → s.rank ≢ Forced → page < 4294967296 → tall + more ≤ page → next ≡ slice_get xs (k + 1) → Bounded next → farther ≡ stop_by (k + 1) next (tall + more + s.tail) → new ≡ better page best farther → Weighed page xs (k + 1) (tall + more) next new
-    weighing_goes_on {next} free narrow low is_next bounded is_farther is_new = record {
-      some = omega arith;
-      within = omega (arith, weighing_goes_past free);
-      is_body = next_body;
-      bound = omega arith;
-      is_next = is_next;
-      bounded = bounded;
-      is_best =
-          is_new
-          ∙ ap (better page best) (is_farther ∙ stop_is xs (k + 1) next (tall + more + s.tail) is_next (omega (arith, next_body, height_at xs k s read)))
-          ∙ ap (λ b. better page b (stop_at xs (k + 1))) w.is_best
-          ∙ carried (stop_at xs) _ (k + 1) (pick page xs k)
-          ∙ ap (stop_at xs) (sym (pick_more page xs k w.some));
-    }
+    -- The page may hold the strip.
+    pub weighing_goes_on : {next : Option Strip} {farther new : Stop} → ((s.rank ≡ Forced) ⊎ (page < tall + more) → ⊥) → page < 4294967296 → next ≡ slice_get xs (k + 1) → Bounded next → farther ≡ stop_by (k + 1) next (tall + more + s.tail) → new ≡ better page best farther → Weighed page xs (k + 1) (tall + more) next new
+    weighing_goes_on {next} {farther} {new} stays narrow is_next bounded is_farther is_new =
+        let low : tall + more ≤ page = elim (cases_lt page (tall + more)) [ inl high ↦ absurd (stays (inr high)) | inr low ↦ low ] in
+        record {
+          some = omega arith;
+          within = omega (arith, goes_past (λ e. stays (inl e)));
+          is_body = next_body;
+          bound = omega arith;
+          is_next = is_next;
+          bounded = bounded;
+          is_best =
+              is_new
+              ∙ ap (better page best) (is_farther ∙ stop_is xs (k + 1) next (tall + more + s.tail) is_next (omega (arith, next_body, height_at xs k s read)))
+              ∙ ap (λ b. better page b (stop_at xs (k + 1))) w.is_best
+              ∙ carried (stop_at xs) _ (k + 1) (pick page xs k)
+              ∙ ap (stop_at xs) (sym (pick_more page xs k w.some));
+          narrow = better_narrow page best farther new narrow w.narrow is_new;
+        }
 
     pub weighing_ends : (s.rank ≡ Forced) ⊎ (page < tall + more) → best ≡ choice page xs
     weighing_ends (inl forced) = ends_at (ap (pick page xs) (limit_at_forced xs (limit xs) k limit_here w.some w.within (rank_here ∙ forced)))

@@ -1,5 +1,5 @@
 -- The choice of a page end.
-use Rattle.std.specs.Prelude.{ℕ, Bool, cond, ◌&&◌, ◌||◌, List, [], ◌∷◌, take, drop, filter, nat_le, nat_lt}
+use Rattle.std.specs.Prelude.{ℕ, Bool, if◌then◌else◌, ◌&&◌, ◌||◌, List, [], ◌∷◌, take, drop, filter, nat_le, nat_lt}
 use Rattle.std.specs.List.{range_with_len, best_of}
 use Rattle.content.specs.declared.ranks.Rank.{Rank}
 use Rattle.content.specs.declared.ranks.Rank.TheVariants.{Free}
@@ -36,4 +36,5 @@ choice page (x ∷ xs) = stop_at (x ∷ xs) (lowest_farthest (x ∷ xs) (fitting
 
 -- The better of two stops, of which the second lies farther: it has to fit, and the first not to, or to have no lower rank.
 abbrev pub better : ℕ → Stop → Stop → Stop
-better page nearer farther = cond (nat_le farther.2 page && (nat_lt page nearer.2 || nat_le (rank_number farther.1) (rank_number nearer.1))) farther nearer
+better page nearer farther =
+    if nat_le farther.2 page && (nat_lt page nearer.2 || nat_le (rank_number farther.1) (rank_number nearer.1)) then farther else nearer
