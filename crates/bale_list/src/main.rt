@@ -1,11 +1,13 @@
-// Cuts a sample bale list into pages on the forms whose heights are its arguments, and prints a line for each page.
+//! Cuts a sample bale list into pages on the forms whose heights are its arguments, and prints a line for each page.
 #![tactic(auto)]
+
+ghost use Rattle.std.specs.Prelude.{◌≡◌, length, OnOk};
 
 mod sample;
 
-use anyhow::anyhow;
+use anyhow::Context;
 use content::Content;
-use sheets::{Forms, Page, Tally, form_height, next_page, no_height};
+use sheets::{Forms, Page, Tally, form_height, next_page};
 use std::alloc::Global;
 use std::env;
 
@@ -13,30 +15,24 @@ use std::env;
 fn read_forms(rt: &HostRuntime, heap: Global) -> anyhow::Result<Forms> {
     let mut heights = Vec::new(heap);
     for text in env::args(rt)?.skip(1) {
-        let Some(height) = form_height(text.as_str()) else {
-            return Err(anyhow!(no_height(heap, text.as_str())?));
-        };
-        heights.push(height)?;
+        heights.push(form_height(text.as_str())?)?;
     }
-    match Forms::new(heights) {
-        Some(forms) => Ok(forms),
-        None => Err(anyhow!("no form height given: say one or more, as in 'bale_list 1440 720'")),
-    }
+    Forms::new(heights).context("no form height given: say one or more, as in 'bale_list 1440 720'")
 }
 
 fn print_page(rt: &HostRuntime, tally: &Tally, form: u32, page: &Page) -> anyhow::Result<()> {
-    let number = tally.pages.saturating_add(1);
-    let height = page.height;
-    let strips = page.strips;
-    let rank = page.rank;
     let over = if page.is_over(form) {
         "over"
     } else {
         "not over"
     };
-    let carried = tally.bales;
     println!(rt;
-        "page {number}: form {form}, used {height}, strips {strips}, rank {rank}, {over}, bales carried {carried}"
+        "page {}: form {form}, used {}, strips {}, rank {}, {over}, bales carried {}",
+        tally.pages.saturating_add(1),
+        page.height,
+        page.strips,
+        page.rank,
+        tally.bales
     )?;
     Ok(())
 }
@@ -47,12 +43,10 @@ fn print_pages<C: Content>(
     content: &mut C,
     forms: &mut Forms,
     tally: &mut Tally,
-) -> anyhow::Result<()> {
-    let strips = content.count();
-    for _ in 0..strips {
-        if content.count() == 0 {
-            break;
-        }
+) -> anyhow::Result<()>
+    ensures { OnOk result (length (C.strips content.new) ≡ 0) }
+{
+    while content.count() > 0 {
         let form = forms.take();
         let page = next_page(content, form);
         print_page(rt, tally, form, &page)?;
@@ -64,16 +58,21 @@ fn print_pages<C: Content>(
 fn run(rt: &HostRuntime) -> anyhow::Result<()> {
     let heap = rt.alloc();
     let mut forms = read_forms(rt, heap)?;
-    let (Ok(mut rows), Ok(mut remark)) = (sample::rows(heap), sample::remark()) else {
-        return Err(anyhow!("no memory for the sample list"));
-    };
+    let mut rows = sample::rows(heap)
+        .ok()
+        .context("no memory for the sample list")?;
+    let mut remark = sample::remark()
+        .ok()
+        .context("no memory for the sample list")?;
     let mut tally = Tally::new();
     print_pages(rt, &mut rows, &mut forms, &mut tally)?;
     print_pages(rt, &mut remark, &mut forms, &mut tally)?;
-    let pages = tally.pages;
-    let left = rows.count().saturating_add(remark.count());
-    let bales = tally.bales;
-    println!(rt; "closing: pages {pages}, strips left {left}, bales {bales}")?;
+    println!(rt;
+        "closing: pages {}, strips left {}, bales {}",
+        tally.pages,
+        rows.count().saturating_add(remark.count()),
+        tally.bales
+    )?;
     Ok(())
 }
 

@@ -6,20 +6,21 @@ use Rattle.std.proofs.lemmas.Option.{slice_get_past, slice_get-get_or}
 use Rattle.std.proofs.lemmas.Bool.{lt-ltb}
 use Rattle.content.specs.declared.strips.Strip.{Strip}
 use Rattle.content.specs.Strips.{blank}
-use Rattle.content.proofs.Nth.{some_inside, some_reads, none_outside}
+use Rattle.std.proofs.lemmas.Option.{slice_get_within, get_or_from_slice_get}
+use Rattle.content.proofs.Nth.{slice_get_outside}
 use Rattle.layers.specs.Places.{Change, by_place, first_at, last_at}
 use Rattle.layers.specs.PlacesLemmas.{length-by_place, get_or-by_place}
 
 module _ (f : Change) where
   pub slice_get-by_place : (begun : Bool) (xs : List Strip) (i : ℕ) (s : Strip) → slice_get xs i ≡ Some s → slice_get (by_place f begun xs) i ≡ Some (f (first_at begun i) (last_at (length xs) i) s)
   slice_get-by_place begun xs i s read =
-      let inside = some_inside xs i s read in
+      let inside = slice_get_within xs i s read in
       slice_get-get_or (by_place f begun xs) i blank (omega (arith, length-by_place f begun xs))
       ∙ ap (λ t. Some t) (get_or-by_place f begun xs i blank blank inside)
-      ∙ ap (λ t. Some (f (first_at begun i) (last_at (length xs) i) t)) (some_reads xs i s blank read)
+      ∙ ap (λ t. Some (f (first_at begun i) (last_at (length xs) i) t)) (get_or_from_slice_get xs i s blank read)
 
   pub slice_get-by_place_none : (begun : Bool) (xs : List Strip) (i : ℕ) → slice_get xs i ≡ None → slice_get (by_place f begun xs) i ≡ None
-  slice_get-by_place_none begun xs i read = slice_get_past (by_place f begun xs) i (omega (arith, length-by_place f begun xs, none_outside xs i read))
+  slice_get-by_place_none begun xs i read = slice_get_past (by_place f begun xs) i (omega (arith, length-by_place f begun xs, slice_get_outside xs i read))
 
   pub drop-by_place : (begun : Bool) (k : ℕ) (xs : List Strip) → drop k (by_place f begun xs) ≡ by_place f (begun || nat_lt 0 k) (drop k xs)
   drop-by_place true zero xs = refl

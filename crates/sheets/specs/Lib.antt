@@ -1,3 +1,4 @@
+pub mod Forms
 pub mod Heights
 pub mod NextPage
 pub mod PaddedPages

@@ -1,65 +1,40 @@
-// The heights of the forms to print on.
-ghost use Rattle.std.specs.Prelude.{◌≡◌, ℕ, ◌+◌, ◌<◌, ◌≤◌, IfOk, if◌then◌else◌, vec_len, string_bytes, MatchOption, nat_lt, slice_index};
-ghost use Rattle.sheets.specs.Heights.{FormHeight, Height, no_height};
+ghost use Rattle.std.specs.Prelude.{◌≡◌, ℕ, ◌<◌, List, [], drop, length, if◌then◌else◌, Some, MatchOption, nat_lt, slice_get};
+ghost use Rattle.std.specs.Vec.Iter.{into_iter_items};
+ghost use Rattle.sheets.specs.Forms.{heights_to_come};
 
-use std::alloc::{AllocError, Global};
+use std::marker::Model;
+use std::vec;
 
-// A form height as it is written; None where the text is no whole number from 1 to 65,535.
-pub fn form_height(text: &str) -> Option<u32>
-    ensures { FormHeight text.now result }
-{
-    match text.parse::<u32>() {
-        Ok(height) => in_range(height),
-        Err(_) => None,
-    }
-}
-
-fn in_range(height: u32) -> Option<u32>
-    ensures { MatchOption result (Height height → ⊥) (λ h. Height height × (h ≡ height)) }
-{
-    if 1 <= height && height <= 65_535 {
-        Some(height)
-    } else {
-        None
-    }
-}
-
-// What is said of an argument that is no form height.
-pub fn no_height(heap: Global, text: &str) -> Result<String, AllocError>
-    ensures { IfOk result (λ s. string_bytes s ≡ no_height text.now) }
-{
-    format!(in heap; "'{text}' is no form height: give a whole number from 1 to 65535")
-}
-
-// Forms in turn; the last height repeats.
+/// The forms to print on, seen as the heights to come. The last one repeats.
 #[derive(Drop)]
 pub struct Forms {
-    heights: Vec<u32>,
-    next: usize,
-    ghost within: { next < vec_len heights },
+    rest: vec::IntoIter<u32>,
+    // The height that comes once the rest is used up.
+    last: u32,
+}
+
+impl Model for Forms {
+    ghost Value = { List ℕ };
+
+    ghost view = { λ f. heights_to_come (into_iter_items f.rest) f.last };
 }
 
 impl Forms {
-    // None where there is no height at all.
+    /// None where there is no height at all.
     pub fn new(heights: Vec<u32>) -> Option<Forms>
-        ensures { MatchOption result (vec_len heights ≡ 0) (λ f. (f.heights.items ≡ heights.items) × (f.next ≡ 0)) }
+        ensures { MatchOption result (heights.items ≡ []) (λ forms. forms ≡ heights.items) }
     {
-        if heights.is_empty() {
-            return None;
-        }
-        Some(Forms { heights, next: 0 })
+        let last = heights.last().copied()?;
+        let rest = heights.into_iter();
+        Some(Forms { rest, last })
     }
 
-    // The height of the next form.
+    /// Takes the next form, and answers its height.
     pub fn take(&mut self) -> u32
-        ensures value { result ≡ slice_index self.old.heights.items self.old.next }
-        ensures next { self.new.next ≡ (if nat_lt (self.old.next + 1) (vec_len self.old.heights) then self.old.next + 1 else self.old.next) }
-        ensures heights { self.new.heights.items ≡ self.old.heights.items }
+        ensures height { slice_get self.old 0 ≡ Some result }
+        ensures rest { self.new ≡ (if nat_lt 1 (length self.old) then drop 1 self.old else self.old) }
     {
-        let height = self.heights[self.next];
-        if self.next + 1 < self.heights.len() {
-            self.next += 1;
-        }
-        height
+        self.last = self.rest.next().unwrap_or(self.last);
+        self.last
     }
 }

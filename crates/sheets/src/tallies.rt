@@ -3,7 +3,7 @@ ghost use Rattle.std.specs.Prelude.{◌≡◌, ◌+◌, ◌-◌, ◌^◌, min};
 
 use crate::pages::Page;
 
-#[derive(Clone, Copy)]
+#[derive(Clone, Copy, PartialEq, Eq, Debug, Default)]
 pub struct Tally {
     pub pages: u64,
     pub bales: u64,
@@ -11,12 +11,13 @@ pub struct Tally {
 
 impl Tally {
     pub fn new() -> Tally
-        ensures { (result.pages ≡ 0) × (result.bales ≡ 0) }
+        ensures pages { result.pages ≡ 0 }
+        ensures bales { result.bales ≡ 0 }
     {
-        Tally { pages: 0, bales: 0 }
+        Tally::default()
     }
 
-    // One page more. No list comes near the largest number.
+    /// One page more. No list comes near the largest number.
     pub fn add(&mut self, page: &Page)
         ensures pages { self.new.pages ≡ min (self.old.pages + 1) (2 ^ 64 - 1) }
         ensures bales { self.new.bales ≡ min (self.old.bales + page.now.bales) (2 ^ 64 - 1) }
