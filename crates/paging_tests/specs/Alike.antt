@@ -1,10 +1,8 @@
 -- Lines that are all alike keep the laws of a content.
-use Rattle.std.specs.Prelude.{◌≡◌, ℕ, ◌<◌, ◌≤◌, Some, None, slice_index_or}
-use Rattle.std.proofs.Common.{ap, ◌∙◌, arith}
-use Rattle.std.specs.List.{slice_get}
+use Rattle.std.specs.Prelude.{◌≡◌, ℕ, ◌<◌, ◌≤◌, slice_index_or}
+use Rattle.std.proofs.Common.{ap, arith}
 use Rattle.std.proofs.lemmas.List.{length-replicate, get_or-replicate}
 use Rattle.std.proofs.ByRecursion.{All-from_get_or}
-use Rattle.std.proofs.lemmas.Option.{slice_get-get_or, slice_get_past}
 use Rattle.content.specs.Strips.{blank}
 use Rattle.content.specs.Laws.{Within, Lawful}
 use Rattle.paging_tests.specs.EvenLists.{even_line, even_lines}
@@ -26,9 +24,3 @@ module _ (n : ℕ) where
         tails = λ k h. omega (arith, ap (λ s. s.tail) (reads k (omega arith)));
         last = λ k h. ap (λ s. s.tail) (reads k (omega arith));
       }
-
-  pub even_inside : (i : ℕ) → i < n → slice_get (even_lines n) i ≡ Some even_line
-  even_inside i h = slice_get-get_or (even_lines n) i blank (omega (arith, length-replicate n even_line)) ∙ ap (λ s. Some s) (reads i h)
-
-  pub even_outside : (i : ℕ) → n ≤ i → slice_get (even_lines n) i ≡ None
-  even_outside i h = slice_get_past (even_lines n) i (omega (arith, length-replicate n even_line))

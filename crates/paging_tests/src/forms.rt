@@ -1,5 +1,5 @@
 // Form heights, good and bad, and the turn of the forms.
-use sheets::{Forms, form_height, no_height};
+use sheets::{Forms, NoFormHeight, form_height};
 use std::test::Fail;
 
 #[test]
@@ -11,7 +11,7 @@ fn heights(rt: HostRuntime) {
         ("007", 7),
         ("65535", 65_535),
     ] {
-        assert_eq!(rt; form_height(text), Some(height), "{}", text);
+        assert_eq!(rt; form_height(text), Ok(height), "{}", text);
     }
     for text in [
         "0",
@@ -25,7 +25,7 @@ fn heights(rt: HostRuntime) {
         "0x10",
         "1.5",
     ] {
-        assert_eq!(rt; form_height(text), None, "{}", text);
+        assert_eq!(rt; form_height(text), Err(NoFormHeight(text)), "{}", text);
     }
 }
 
@@ -45,7 +45,8 @@ fn message(rt: HostRuntime) -> Result<(), Fail> {
             "'four' is no form height: give a whole number from 1 to 65535",
         ),
     ] {
-        assert_eq!(rt; no_height(rt.alloc(), text)?.as_str(), said);
+        let message = format!(in rt.alloc(); "{}", NoFormHeight(text))?;
+        assert_eq!(rt; message.as_str(), said);
     }
     Ok(())
 }

@@ -31,7 +31,7 @@ fn line_ranks(rt: HostRuntime) -> Result<(), Fail> {
         let mut paragraph = Paragraph::new(4, 100, lines, orphans, widows)?;
         for (i, rank) in ranks.iter().enumerate() {
             let line = paragraph.strip(i as u32).ok_or("no line")?;
-            assert_eq!(rt; line.rank.number(), *rank);
+            assert_eq!(rt; u8::from(line.rank), *rank);
             assert_eq!(rt; line, plain(4, i as u32, 100, 0, line.rank));
         }
         // a line keeps its part and its rank when those before it are gone
