@@ -1,7 +1,7 @@
 -- The bales of the strips that a loop from `from` has passed.
-use Rattle.std.proofs.Common.{◌≡◌, ℕ, ◌+◌, ◌-◌, ◌*◌, ◌≤◌, ◌⊎◌, List, length, take, drop, Some, sym, ap, ◌∙◌, inl, inr, arith}
+use Rattle.std.proofs.Common.{◌≡◌, ℕ, ◌+◌, ◌-◌, ◌*◌, ◌≤◌, List, take, drop, Some, ap, ◌∙◌, arith}
 use Rattle.std.specs.List.{slice_get, AllByRecursion}
-use Rattle.std.proofs.lemmas.List.{length-take, length-drop, take_all}
+use Rattle.std.proofs.lemmas.List.{length-take, length-drop}
 use Rattle.std.proofs.lemmas.Option.{slice_get_within, get_or_from_slice_get}
 use Rattle.std.proofs.lemmas.List.Sums.{sum_by_more}
 use Rattle.std.proofs.ByRecursion.{sum_by_le, All-weaker, All-take, All-drop}
@@ -30,10 +30,3 @@ module _ (xs : List Strip) (from i : ℕ) where
       let part = take (i - from) rest in
       let near : AllByRecursion (λ s. s.bales ≤ 200000) part = All-weaker (Within reach) (λ s. s.bales ≤ 200000) (λ s w. omega arith) part (All-take (Within reach) (i - from) rest (All-drop (Within reach) from xs l.each)) in
       omega (arith, sum_by_le (λ s. s.bales) 200000 part near, length-take (i - from) rest, length-drop from xs)
-
-  -- At the end, or where the strips ran out, all that were asked for are passed.
-  pub all_passed : (k : ℕ) → i ≤ from + k → (i ≡ from + k) ⊎ (length xs ≤ i) → passed i ≡ take k (drop from xs)
-  all_passed k h (inl e) = let gone : i - from ≡ k = omega arith in ap (λ j. take j (drop from xs)) gone
-  all_passed k h (inr out) =
-      let short : length (drop from xs) ≤ i - from = omega (arith, length-drop from xs) in
-      take_all (i - from) (drop from xs) short ∙ sym (take_all k (drop from xs) (omega arith))
