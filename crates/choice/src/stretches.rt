@@ -33,7 +33,7 @@ impl<C: Content> Stretch<'_, C> {
         ensures read { result ≡ slice_get (strips_of C.Content self.now) k }
         ensures bounded { Bounded result }
     {
-        // A chain of `filter` and `and_then` leaves both clauses to a proof by hand.
+        // As a chain of `filter` and `and_then` it asks for more proof.
         if k < self.most() {
             self.content.strip(self.from + k)
         } else {
@@ -48,7 +48,7 @@ impl<C: Content> Stretch<'_, C> {
         ensures past_page { PastPageChangesNothing page (strips_of C.Content self.now) result }
         ensures few { result.0 ≤ self.now.end - self.now.from }
     {
-        // Under `map_or` all four clauses would be left to a proof by hand, and not two.
+        // Under `map_or` it asks for more proof.
         match self.strip(0) {
             Some(first) => self.weigh(page, first).numbers(),
             None => (0, Rank::Free, 0),
