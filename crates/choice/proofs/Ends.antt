@@ -1,5 +1,5 @@
 -- The choice is the best end of the page.
-use Rattle.std.proofs.Common.{◌≡◌, ℕ, ◌<◌, ◌≤◌, List, [], ◌∷◌, length, None, refl, arith}
+use Rattle.std.proofs.Common.{◌≡◌, ℕ, ◌≤◌, List, [], ◌∷◌, length, None, refl, arith}
 use Rattle.std.specs.List.{slice_get}
 use Rattle.content.specs.declared.ranks.Rank.TheVariants.{Free}
 use Rattle.content.specs.declared.strips.Strip.{Strip}
@@ -34,10 +34,6 @@ choice_within page [] = omega arith
 choice_within page (x ∷ xs) =
     let law = choice_ends_best page (x ∷ xs) in
     omega (arith, law.near, law.is_limit.within)
-
-pub choice_some : (page : ℕ) (xs : List Strip) → 0 < length xs → 0 < (choice page xs).0
-choice_some page [] left = absurd (omega arith)
-choice_some page (x ∷ xs) left = (choice_ends_best page (x ∷ xs)).some
 
 pub choice_of_nothing : (page : ℕ) (xs : List Strip) → slice_get xs 0 ≡ None → (0, Free, 0) ≡ choice page xs
 unfolding choice
