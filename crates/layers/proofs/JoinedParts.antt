@@ -1,8 +1,9 @@
 -- How many strips joined parts have, and what a join answers.
-use Rattle.std.specs.Prelude.{◌≡◌, ℕ, ◌+◌, Bool, true, false, cond, List, length, is_some, Some, None, Ok, Err, Option, Result, MatchResult, refl}
+use Rattle.std.specs.Prelude.{◌≡◌, ℕ, ◌+◌, Bool, true, false, List, length, is_some, Some, None, Ok, Err, Option, Result, MatchResult, if◌then◌else◌, refl}
 use Rattle.std.proofs.Common.{ap, subst, ◌∙◌}
 use Rattle.std.proofs.lemmas.List.{length-append}
 use Rattle.std.proofs.lemmas.Bool.{false≢true}
+use Rattle.content.specs.declared.contents.Content.{Ghosts as Meaning}
 use Rattle.content.specs.declared.strips.Strip.{Strip}
 use Rattle.layers.specs.declared.faults.LayerFault.{LayerFault}
 use Rattle.layers.specs.declared.faults.LayerFault.TheVariants.{Begun, PairLimit}
@@ -30,17 +31,17 @@ word_of_number Avoid = refl
 word_of_number Force = refl
 
 -- What a join answers where the number is a word's and nothing was taken before.
-module _ {A B : Type 0} (first : A → List Strip) (second : B → List Strip) (before after : Pair A B) (m n number : ℕ) (by : Joint) (r : Result (Unit {0}) LayerFault) where
-  abbrev Joins : Result Joint LayerFault → Type 0
-  Joins checked = Settled before after checked (λ j. JoinedBy first second j before after) r
+module _ {A B : Type 0} (a : Meaning A) (b : Meaning B) (before after : Pair A B) (m n number : ℕ) (by : Joint) (r : Result (Unit {0}) LayerFault) where
+  abbrev Joins : Result Joint LayerFault → Result (Unit {0}) LayerFault → Type 0
+  Joins checked = Settled before after checked (λ j. JoinedBy a b j before after)
 
-  pub joins : word_of number ≡ Some by.word → pair_begun before ≡ false → Joins (pair_checked (pair_begun before) m n number by.gap) → MatchResult r (λ _. JoinedBy first second by before after) (λ e. joint_fits m n by ≡ false)
-  joins named whole settled = either (joint_fits m n by) refl r (subst Joins checked settled) where
-    checked : pair_checked (pair_begun before) m n number by.gap ≡ cond (joint_fits m n by) (Ok by) (Err PairLimit)
-    checked = ap (λ b. cond b (Err Begun) (joint_checked m n by.gap (word_of number))) whole ∙ ap (joint_checked m n by.gap) named
+  pub joins : word_of number ≡ Some by.word → pair_begun before ≡ false → Joins (pair_checked (pair_begun before) m n number by.gap) r → MatchResult r (λ _. JoinedBy a b by before after) (λ e. joint_fits m n by ≡ false)
+  joins named whole settled = either (joint_fits m n by) refl r (subst (λ checked. Joins checked r) checked settled) where
+    checked : pair_checked (pair_begun before) m n number by.gap ≡ (if joint_fits m n by then Ok by else Err PairLimit)
+    checked = ap (λ begun. if begun then Err Begun else joint_checked m n by.gap (word_of number)) whole ∙ ap (joint_checked m n by.gap) named
 
-    either : (b : Bool) → joint_fits m n by ≡ b → (r : Result (Unit {0}) LayerFault) → Settled before after (cond b (Ok by) (Err PairLimit)) (λ j. JoinedBy first second j before after) r → MatchResult r (λ _. JoinedBy first second by before after) (λ e. joint_fits m n by ≡ false)
-    either true fits (Ok _) h = h
-    either true fits (Err e) h = absurd h
-    either false over (Ok _) h = absurd h
-    either false over (Err e) h = over
+    either : (fits : Bool) → joint_fits m n by ≡ fits → (r : Result (Unit {0}) LayerFault) → Joins (if fits then Ok by else Err PairLimit) r → MatchResult r (λ _. JoinedBy a b by before after) (λ e. joint_fits m n by ≡ false)
+    either true fits (Ok _) joined = joined
+    either true fits (Err e) joined = absurd joined
+    either false over (Ok _) joined = absurd joined
+    either false over (Err e) joined = over

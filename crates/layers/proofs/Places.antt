@@ -1,26 +1,22 @@
 -- A list whose strips change by where they stand: what is read of it, and what a take leaves of it.
-use Rattle.std.specs.Prelude.{◌≡◌, ℕ, zero, suc, Bool, true, false, ◌||◌, List, [], ◌∷◌, length, drop, Some, None, nat_lt, refl}
+use Rattle.std.specs.Prelude.{◌≡◌, ℕ, zero, suc, Bool, true, false, ◌||◌, List, [], ◌∷◌, length, drop, Some, None, Option, option_map, nat_lt, refl}
 use Rattle.std.specs.List.{slice_get}
 use Rattle.std.proofs.Common.{sym, ap, ◌∙◌, arith}
-use Rattle.std.proofs.lemmas.Option.{slice_get_past, slice_get-get_or}
 use Rattle.std.proofs.lemmas.Bool.{lt-ltb}
 use Rattle.content.specs.declared.strips.Strip.{Strip}
-use Rattle.content.specs.Strips.{blank}
-use Rattle.std.proofs.lemmas.Option.{slice_get_within, get_or_from_slice_get}
-use Rattle.content.proofs.Nth.{slice_get_outside}
 use Rattle.layers.specs.Places.{Change, by_place, first_at, last_at}
-use Rattle.layers.specs.PlacesLemmas.{length-by_place, get_or-by_place}
+use Rattle.layers.specs.PlacesLemmas.{first_more, last_more, last_none}
 
 module _ (f : Change) where
-  pub slice_get-by_place : (begun : Bool) (xs : List Strip) (i : ℕ) (s : Strip) → slice_get xs i ≡ Some s → slice_get (by_place f begun xs) i ≡ Some (f (first_at begun i) (last_at (length xs) i) s)
-  slice_get-by_place begun xs i s read =
-      let inside = slice_get_within xs i s read in
-      slice_get-get_or (by_place f begun xs) i blank (omega (arith, length-by_place f begun xs))
-      ∙ ap (λ t. Some t) (get_or-by_place f begun xs i blank blank inside)
-      ∙ ap (λ t. Some (f (first_at begun i) (last_at (length xs) i) t)) (get_or_from_slice_get xs i s blank read)
-
-  pub slice_get-by_place_none : (begun : Bool) (xs : List Strip) (i : ℕ) → slice_get xs i ≡ None → slice_get (by_place f begun xs) i ≡ None
-  slice_get-by_place_none begun xs i read = slice_get_past (by_place f begun xs) i (omega (arith, length-by_place f begun xs, slice_get_outside xs i read))
+  pub slice_get-by_place : (begun : Bool) (xs : List Strip) (i : ℕ) → slice_get (by_place f begun xs) i ≡ option_map (f (first_at begun i) (last_at (length xs) i)) (slice_get xs i)
+  slice_get-by_place begun [] i = refl
+  slice_get-by_place false (x ∷ xs) zero = ap (λ b. Some (f true b x)) (last_none (length xs))
+  slice_get-by_place true (x ∷ xs) zero = ap (λ b. Some (f false b x)) (last_none (length xs))
+  slice_get-by_place begun (x ∷ xs) (suc i) =
+      let read = slice_get xs i in
+      slice_get-by_place true xs i
+      ∙ ap (λ b. option_map (f b (last_at (length xs) i)) read) (first_more begun i)
+      ∙ ap (λ b. option_map (f (first_at begun (suc i)) b) read) (last_more (length xs) i)
 
   pub drop-by_place : (begun : Bool) (k : ℕ) (xs : List Strip) → drop k (by_place f begun xs) ≡ by_place f (begun || nat_lt 0 k) (drop k xs)
   drop-by_place true zero xs = refl

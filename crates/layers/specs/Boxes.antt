@@ -1,12 +1,15 @@
 -- A box pads its content above and below.
-use Rattle.std.specs.Prelude.{◌≡◌, ℕ, ◌+◌, Bool, true, false, cond, not, ◌&&◌, List, Ok, Err, Result, nat_le}
+use Rattle.std.specs.Prelude.{◌≡◌, ℕ, ◌+◌, Bool, true, false, not, ◌&&◌, List, Ok, Err, Result, if◌then◌else◌, nat_le}
+use Rattle.content.specs.declared.contents.Content.{Ghosts as Meaning}
 use Rattle.content.specs.declared.strips.Strip.{Strip}
-use Rattle.layers.specs.declared.boxes.PaddingBox.{PaddingBox}
 use Rattle.layers.specs.declared.faults.LayerFault.{LayerFault}
 use Rattle.layers.specs.declared.faults.LayerFault.TheVariants.{Begun, BoxLimit}
+use Rattle.layers.specs.declared.layer.Layer.{Layer}
 use Rattle.layers.specs.declared.padding.DecorationBreak.{DecorationBreak}
 use Rattle.layers.specs.declared.padding.DecorationBreak.TheVariants.{Slice, Clone}
 use Rattle.layers.specs.declared.padding.Padding.{Padding}
+use Rattle.layers.specs.Held.{held_left}
+use Rattle.layers.specs.Layers.{content_of, effect_of}
 use Rattle.layers.specs.Places.{Change, by_place}
 
 -- Cut at a page end, or repeated on each page.
@@ -20,10 +23,10 @@ abbrev pub padded : Padding → Change
 padded by first last s = record {
   node = s.node;
   part = s.part;
-  height = s.height + cond first by.top 0 + cond last by.bottom 0;
+  height = s.height + (if first then by.top else 0) + (if last then by.bottom else 0);
   lead = s.lead;
-  head = s.head + cond (repeats by.at_breaks && not first) by.top 0;
-  tail = s.tail + cond (repeats by.at_breaks && not last) by.bottom 0;
+  head = s.head + (if repeats by.at_breaks && not first then by.top else 0);
+  tail = s.tail + (if repeats by.at_breaks && not last then by.bottom else 0);
   bales = s.bales;
   rank = s.rank;
 }
@@ -38,26 +41,37 @@ padding_fits reach by = nat_le by.top 4095 && nat_le by.bottom 4095 && nat_le (r
 
 -- Past the limits a box means what it did at its start.
 abbrev pub padding_over : ℕ → Padding → Padding
-padding_over reach by = cond (padding_fits reach by) by bare_padding
+padding_over reach by = if padding_fits reach by then by else bare_padding
+
+abbrev pub padded_reach : ℕ → Padding → ℕ
+padded_reach reach by = reach + by.top + by.bottom
+
+-- A box.
+abbrev pub PaddingBox : Type 0 → Type 0
+PaddingBox C = Layer Padding C
+
+-- The padding that was set last, within the limits or not.
+abbrev pub padding_of : {C : Type 0} → PaddingBox C → Padding
+padding_of b = effect_of b
 
 -- What is left of a box, and its reach, by its content's strips and reach.
-module _ {C : Type 0} (strips : C → List Strip) (reach : C → ℕ) where
+module _ {C : Type 0} (m : Meaning C) where
   abbrev pub box_padding : PaddingBox C → Padding
-  box_padding b = padding_over (reach b.held.content) b.padding
+  box_padding b = padding_over (m.reach (content_of b)) (padding_of b)
 
   abbrev pub box_left : PaddingBox C → List Strip
-  box_left b = by_place (padded (box_padding b)) b.held.begun (strips b.held.content)
+  box_left b = held_left m (padded (box_padding b)) b.held
 
   abbrev pub box_reach : PaddingBox C → ℕ
-  box_reach b = reach b.held.content + (box_padding b).top + (box_padding b).bottom
+  box_reach b = padded_reach (m.reach (content_of b)) (box_padding b)
 
   -- A box that was set: no strip was taken through it, and its padding is within the limits.
   pub record PaddedBy (by : Padding) (before after : PaddingBox C) : Type 0 where
     pub held : after.held ≡ before.held
-    pub padding : after.padding ≡ by
-    pub left : box_left after ≡ by_place (padded by) false (strips before.held.content)
-    pub reaches : box_reach after ≡ reach before.held.content + by.top + by.bottom
+    pub padding : padding_of after ≡ by
+    pub left : box_left after ≡ by_place (padded by) false (m.strips (content_of before))
+    pub reaches : box_reach after ≡ padded_reach (m.reach (content_of before)) by
 
 -- A box is set before any strip is taken through it, and within the limits.
 abbrev pub box_checked : Bool → ℕ → Padding → Result (Unit {0}) LayerFault
-box_checked begun reach by = cond begun (Err Begun) (cond (padding_fits reach by) (Ok tt) (Err BoxLimit))
+box_checked begun reach by = if begun then Err Begun else if padding_fits reach by then Ok tt else Err BoxLimit

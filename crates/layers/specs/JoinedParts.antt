@@ -1,14 +1,15 @@
 -- Parts that are joined keep the laws.
-use Rattle.std.specs.Prelude.{◌≡◌, ℕ, ◌+◌, ◌≤◌, max, Bool, true, false, cond, List, ◌++◌, length, Some, None, Option, nat_le, refl}
+use Rattle.std.specs.Prelude.{◌≡◌, ℕ, ◌+◌, ◌≤◌, max, Bool, true, false, List, ◌++◌, length, Some, None, Option, if◌then◌else◌, nat_le, refl}
 use Rattle.std.proofs.Common.{arith}
 use Rattle.std.proofs.lemmas.Bool.{and_parts, leb-true}
+use Rattle.content.specs.declared.contents.Content.{Ghosts as Meaning}
 use Rattle.content.specs.declared.strips.Strip.{Strip}
 use Rattle.content.specs.Laws.{Within, Lawful}
 use Rattle.content.proofs.Lawful.{Lawful-append, Lawful_wider}
 use Rattle.layers.specs.declared.joints.Joint.{Joint}
 use Rattle.layers.specs.declared.pairs.Pair.{Pair}
 use Rattle.layers.specs.Places.{by_place}
-use Rattle.layers.specs.Pairs.{joined, joint_fits, joint_over, linked, linked_reach, pair_left, pair_reach}
+use Rattle.layers.specs.Pairs.{first_of, joined, joint_fits, joint_of, joint_over, linked, linked_reach, pair_left, pair_reach, second_of}
 use Rattle.layers.specs.LawfulChange.{LawfulChange, Lawful-by_place}
 use Rattle.layers.specs.PlacesLemmas.{length-by_place}
 
@@ -21,7 +22,7 @@ joined_within by low high h gap first last s w = record {
   tail_within = omega arith;
   bales_within = omega arith;
 } where
-  either : (first : Bool) → cond first (max s.lead by.gap) s.lead ≤ high
+  either : (first : Bool) → (if first then max s.lead by.gap else s.lead) ≤ high
   either true = omega arith
   either false = omega arith
 
@@ -44,13 +45,13 @@ module _ (xs ys : List Strip) (begun : Bool) (m n : ℕ) (first : Lawful xs m) (
   pub linked_lawful : (j : Option Joint) → Lawful (linked (joint_over (length xs) (length ys) j) xs begun ys) (linked_reach (joint_over (length xs) (length ys) j) m n)
   linked_lawful None = first
   linked_lawful (Some by) = either (joint_fits (length xs) (length ys) by) refl where
-    either : (b : Bool) → joint_fits (length xs) (length ys) by ≡ b → Lawful (linked (cond b (Some by) None) xs begun ys) (linked_reach (cond b (Some by) None) m n)
+    either : (b : Bool) → joint_fits (length xs) (length ys) by ≡ b → Lawful (linked (if b then Some by else None) xs begun ys) (linked_reach (if b then Some by else None) m n)
     either true fits = both_lawful by fits
     either false over = first
 
 -- A pair of lawful contents is lawful.
-pub Lawful-pair_left : {A B : Type 0} (first : A → List Strip) (second : B → List Strip) (reach : A → ℕ) (reach' : B → ℕ) → ((a : A) → Lawful (first a) (reach a)) → ((b : B) → Lawful (second b) (reach' b)) → (p : Pair A B) → Lawful (pair_left first second p) (pair_reach first second reach reach' p)
-Lawful-pair_left first second reach reach' lawful lawful' p =
-    let a = p.first.content in
-    let b = p.second.content in
-    linked_lawful (first a) (second b) p.second.begun (reach a) (reach' b) (lawful a) (lawful' b) p.joint
+pub Lawful-pair_left : {A B : Type 0} (a : Meaning A) (b : Meaning B) → ((x : A) → Lawful (a.strips x) (a.reach x)) → ((y : B) → Lawful (b.strips y) (b.reach y)) → (p : Pair A B) → Lawful (pair_left a b p) (pair_reach a b p)
+Lawful-pair_left a b first second p =
+    let x = first_of p in
+    let y = second_of p in
+    linked_lawful (a.strips x) (b.strips y) p.second.begun (a.reach x) (b.reach y) (first x) (second y) (joint_of p)

@@ -1,10 +1,13 @@
 -- A keep grades the breaks inside it as against an avoid.
-use Rattle.std.specs.Prelude.{cond, List}
+use Rattle.std.specs.Prelude.{List, if◌then◌else◌}
+use Rattle.content.specs.declared.contents.Content.{Ghosts as Meaning}
 use Rattle.content.specs.declared.ranks.Rank.{Rank}
 use Rattle.content.specs.declared.ranks.Rank.TheVariants.{Forced, Free, AgainstOrphansOrWidows, AgainstAvoid}
 use Rattle.content.specs.declared.strips.Strip.{Strip}
-use Rattle.layers.specs.declared.keeps.Keep.{Keep}
-use Rattle.layers.specs.Places.{Change, by_place}
+use Rattle.layers.specs.declared.keeps.Keeping.{Keeping}
+use Rattle.layers.specs.declared.layer.Layer.{Layer}
+use Rattle.layers.specs.Held.{held_left}
+use Rattle.layers.specs.Places.{Change}
 
 -- A forced break stays forced.
 abbrev pub kept_rank : Rank → Rank
@@ -23,9 +26,13 @@ kept first last s = record {
   head = s.head;
   tail = s.tail;
   bales = s.bales;
-  rank = cond first s.rank (kept_rank s.rank);
+  rank = if first then s.rank else kept_rank s.rank;
 }
 
+-- A keep.
+abbrev pub Keep : Type 0 → Type 0
+Keep C = Layer Keeping C
+
 -- What is left of a keep, by what its content's strips are.
-abbrev pub keep_left : {C : Type 0} → (C → List Strip) → Keep C → List Strip
-keep_left strips k = by_place kept k.held.begun (strips k.held.content)
+abbrev pub keep_left : {C : Type 0} → Meaning C → Keep C → List Strip
+keep_left m k = held_left m kept k.held

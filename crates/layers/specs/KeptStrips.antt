@@ -1,10 +1,7 @@
 -- A keep changes nothing but ranks, so it keeps the laws.
-use Rattle.std.specs.Prelude.{ℕ, List}
-use Rattle.content.specs.declared.strips.Strip.{Strip}
-use Rattle.content.specs.Laws.{Lawful}
-use Rattle.layers.specs.declared.keeps.Keep.{Keep}
-use Rattle.layers.specs.Keeps.{kept, keep_left}
-use Rattle.layers.specs.LawfulChange.{LawfulChange, Lawful-by_place}
+use Rattle.std.specs.Prelude.{ℕ}
+use Rattle.layers.specs.Keeps.{kept}
+use Rattle.layers.specs.LawfulChange.{LawfulChange}
 
 pub kept_lawful : (reach : ℕ) → LawfulChange kept reach reach
 kept_lawful reach = record {
@@ -19,10 +16,3 @@ kept_lawful reach = record {
   gives_way = λ first last s t h. h;
   no_tail = λ first s h. h;
 }
-
--- A keep of lawful contents is lawful.
-pub Lawful-keep_left : {C : Type 0} (strips : C → List Strip) (reach : C → ℕ) → ((c : C) → Lawful (strips c) (reach c)) → (k : Keep C) → Lawful (keep_left strips k) (reach k.held.content)
-Lawful-keep_left strips reach lawful k =
-    let held = k.held.content in
-    let l = lawful held in
-    Lawful-by_place kept (reach held) (reach held) (kept_lawful (reach held)) k.held.begun (strips held) l.bounded l

@@ -1,13 +1,16 @@
 pub mod Places
+pub mod Held
 pub mod Takes
 pub mod TwoLists
 pub mod Settled
 pub mod Faults
+pub mod Layers
 pub mod Boxes
 pub mod Keeps
 pub mod Pairs
 pub mod PlacesLemmas
 pub mod LawfulChange
+pub mod LawfulLayers
 pub mod KeptStrips
 pub mod PaddedStrips
 pub mod JoinedParts

@@ -1,20 +1,19 @@
 -- Padding keeps the laws.
-use Rattle.std.specs.Prelude.{◌≡◌, ℕ, ◌+◌, ◌≤◌, Bool, true, false, cond, not, ◌&&◌, List, refl}
+use Rattle.std.specs.Prelude.{◌≡◌, ℕ, ◌+◌, ◌≤◌, Bool, true, false, not, ◌&&◌, if◌then◌else◌, refl}
 use Rattle.std.proofs.Common.{arith}
 use Rattle.std.proofs.lemmas.Bool.Decides.{nat_tests}
 use Rattle.content.specs.declared.strips.Strip.{Strip}
-use Rattle.content.specs.Laws.{Within, Lawful}
-use Rattle.layers.specs.declared.boxes.PaddingBox.{PaddingBox}
+use Rattle.content.specs.Laws.{Within}
 use Rattle.layers.specs.declared.padding.Padding.{Padding}
-use Rattle.layers.specs.Boxes.{repeats, padded, bare_padding, padding_fits, padding_over, box_padding, box_left, box_reach}
-use Rattle.layers.specs.LawfulChange.{LawfulChange, Lawful-by_place}
+use Rattle.layers.specs.Boxes.{repeats, padded, bare_padding, padding_fits, padding_over, padded_reach}
+use Rattle.layers.specs.LawfulChange.{LawfulChange}
 
-at_most : (b : Bool) (n : ℕ) → cond b n 0 ≤ n
+at_most : (b : Bool) (n : ℕ) → (if b then n else 0) ≤ n
 at_most true n = omega arith
 at_most false n = omega arith
 
 module _ (by : Padding) (reach : ℕ) where
-  padded_within : (first last : Bool) (s : Strip) → Within reach s → Within (reach + by.top + by.bottom) (padded by first last s)
+  padded_within : (first last : Bool) (s : Strip) → Within reach s → Within (padded_reach reach by) (padded by first last s)
   padded_within first last s w = record {
     some_height = omega arith;
     height_within = omega (arith, at_most first by.top, at_most last by.bottom);
@@ -27,7 +26,7 @@ module _ (by : Padding) (reach : ℕ) where
   -- The bottom that a strip has in its tail the next one has in its tail too, or in its height.
   padded_gives_way : (first last : Bool) (s t : Strip) → s.tail ≤ t.lead + t.height + t.tail → (padded by first false s).tail ≤ (padded by false last t).lead + (padded by false last t).height + (padded by false last t).tail
   padded_gives_way first last s t h = either (repeats by.at_breaks) last where
-    either : (b last : Bool) → s.tail + cond (b && true) by.bottom 0 ≤ t.lead + (t.height + 0 + cond last by.bottom 0) + (t.tail + cond (b && not last) by.bottom 0)
+    either : (b last : Bool) → s.tail + (if b && true then by.bottom else 0) ≤ t.lead + (t.height + 0 + (if last then by.bottom else 0)) + (t.tail + (if b && not last then by.bottom else 0))
     either true true = omega arith
     either true false = omega arith
     either false true = omega arith
@@ -35,24 +34,16 @@ module _ (by : Padding) (reach : ℕ) where
 
   padded_no_tail : (first : Bool) (s : Strip) → s.tail ≡ 0 → (padded by first true s).tail ≡ 0
   padded_no_tail first s h = either (repeats by.at_breaks) where
-    either : (b : Bool) → s.tail + cond (b && false) by.bottom 0 ≡ 0
+    either : (b : Bool) → s.tail + (if b && false then by.bottom else 0) ≡ 0
     either true = omega arith
     either false = omega arith
 
-  pub padded_lawful : LawfulChange (padded by) reach (reach + by.top + by.bottom)
+  pub padded_lawful : LawfulChange (padded by) reach (padded_reach reach by)
   padded_lawful = record { within = padded_within; gives_way = padded_gives_way; no_tail = padded_no_tail }
 
 -- Within the limits the padding is what was set, and past them none: either way the reach keeps its bound.
-pub padding_bounded : (reach : ℕ) (by : Padding) → reach ≤ 200000 → reach + (padding_over reach by).top + (padding_over reach by).bottom ≤ 200000
+pub padding_bounded : (reach : ℕ) (by : Padding) → reach ≤ 200000 → padded_reach reach (padding_over reach by) ≤ 200000
 padding_bounded reach by h = either (padding_fits reach by) refl where
-  either : (b : Bool) → padding_fits reach by ≡ b → reach + (cond b by bare_padding).top + (cond b by bare_padding).bottom ≤ 200000
+  either : (b : Bool) → padding_fits reach by ≡ b → padded_reach reach (if b then by else bare_padding) ≤ 200000
   either true e = grind (arith, nat_tests)
   either false e = omega arith
-
--- A box of lawful contents is lawful.
-pub Lawful-box_left : {C : Type 0} (strips : C → List Strip) (reach : C → ℕ) → ((c : C) → Lawful (strips c) (reach c)) → (b : PaddingBox C) → Lawful (box_left strips reach b) (box_reach strips reach b)
-Lawful-box_left strips reach lawful b =
-    let held = b.held.content in
-    let l = lawful held in
-    let by = box_padding strips reach b in
-    Lawful-by_place (padded by) (reach held) (box_reach strips reach b) (padded_lawful by (reach held)) b.held.begun (strips held) (padding_bounded (reach held) b.padding l.bounded) l

@@ -6,13 +6,13 @@ use Rattle.std.proofs.lemmas.Bool.Decides.{nat_tests}
 use Rattle.content.specs.declared.strips.Strip.{Strip}
 use Rattle.layers.specs.Places.{Change, by_place, first_at, last_at}
 
-last_none : (n : ℕ) → (n == 0) ≡ last_at (suc n) 0
+pub last_none : (n : ℕ) → (n == 0) ≡ last_at (suc n) 0
 last_none n = grind (arith, nat_tests)
 
-last_more : (n i : ℕ) → last_at n i ≡ last_at (suc n) (suc i)
+pub last_more : (n i : ℕ) → last_at n i ≡ last_at (suc n) (suc i)
 last_more n i = grind (arith, nat_tests)
 
-first_more : (begun : Bool) (i : ℕ) → first_at true i ≡ first_at begun (suc i)
+pub first_more : (begun : Bool) (i : ℕ) → first_at true i ≡ first_at begun (suc i)
 first_more true i = refl
 first_more false i = grind (arith, nat_tests)
 

@@ -1,19 +1,26 @@
--- What a take through a layer leaves of the content that it holds.
-use Rattle.std.specs.Prelude.{◌≡◌, ℕ, ◌≤◌, Bool, false, cond, ◌&&◌, ◌||◌, List, length, drop, nat_le, nat_lt}
+-- What a take of k that answered r leaves.
+use Rattle.std.specs.Prelude.{◌≡◌, ℕ, ◌≤◌, Bool, false, ◌&&◌, ◌||◌, List, length, drop, if◌then◌else◌, nat_le, nat_lt}
+use Rattle.content.specs.declared.contents.Content.{Ghosts as Meaning}
 use Rattle.content.specs.declared.strips.Strip.{Strip}
-use Rattle.layers.specs.Places.{Change, by_place}
+use Rattle.layers.specs.declared.held.Held.{Held}
+use Rattle.layers.specs.Held.{held_left}
+use Rattle.layers.specs.Places.{Change}
 
--- A take of k answered r. It found the strips xs and left xs'; a strip had been taken before where begun, and has been now where begun'.
-module _ (k : ℕ) (r : Bool) (begun : Bool) (xs : List Strip) (begun' : Bool) (xs' : List Strip) where
+-- It found the strips xs and left xs': the first k are gone, or all are left where there are fewer.
+pub record TakenOff (k : ℕ) (r : Bool) (xs xs' : List Strip) : Type 0 where
+  pub done : r ≡ nat_le k (length xs)
+  pub rest : xs' ≡ (if r then drop k xs else xs)
+
+module _ {C : Type 0} (m : Meaning C) (k : ℕ) (r : Bool) (old new : Held C) where
+  -- It was taken through a layer, which is begun once a strip was.
   pub record Taken : Type 0 where
-    pub done : r ≡ nat_le k (length xs)
-    pub rest : xs' ≡ cond r (drop k xs) xs
-    pub begins : begun' ≡ (begun || (r && nat_lt 0 k))
+    pub strips : TakenOff k r (m.strips old.content) (m.strips new.content)
+    pub reach : m.reach new.content ≡ m.reach old.content
+    pub begins : new.begun ≡ (old.begun || (r && nat_lt 0 k))
 
-  -- The list that a layer makes of them, whatever change it makes, loses its first k strips too.
+  -- What the layer shows, whatever change it makes, loses its first k strips too.
   pub record TakenThrough : Type 0 where
-    pub done : (f : Change) → r ≡ nat_le k (length (by_place f begun xs))
-    pub rest : (f : Change) → by_place f begun' xs' ≡ cond r (drop k (by_place f begun xs)) (by_place f begun xs)
+    pub strips : (f : Change) → TakenOff k r (held_left m f old) (held_left m f new)
     -- where none was taken, all are left
-    pub idle : (r && nat_lt 0 k) ≡ false → xs' ≡ xs
-    pub fewer : length xs' ≤ length xs
+    pub idle : (r && nat_lt 0 k) ≡ false → m.strips new.content ≡ m.strips old.content
+    pub fewer : length (m.strips new.content) ≤ length (m.strips old.content)

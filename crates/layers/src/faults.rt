@@ -1,24 +1,24 @@
-// Why a layer was not set or joined.
 ghost use Rattle.std.specs.Prelude.{◌≡◌};
 ghost use Rattle.layers.specs.Faults.{layer_refusal};
 
 use content::Refusal;
 
+/// Why a layer was not set or joined.
 #[derive(Clone, Copy, PartialEq, Eq, Debug)]
 pub enum LayerFault {
-    // a strip was already taken through the layer
+    /// A strip was already taken through the layer.
     Begun,
-    // the padding of a box is too large, or would bring its reach past the limit
+    /// The padding of a box is too large, or would bring its reach past the limit.
     BoxLimit,
-    // a pair's break word or gap is out of range, or its parts have too many strips together
+    /// A pair's break word or gap is out of range, or its parts have too many strips together.
     PairLimit,
 }
 
-impl LayerFault {
-    pub fn refusal(self) -> Refusal
-        ensures { result ≡ layer_refusal self }
-    {
-        let number = match self {
+impl From<LayerFault> for Refusal {
+    ghost from_gives = { λ fault refusal. refusal ≡ layer_refusal fault };
+
+    fn from(fault: LayerFault) -> Refusal {
+        let number = match fault {
             LayerFault::BoxLimit => 10,
             LayerFault::PairLimit => 11,
             LayerFault::Begun => 12,

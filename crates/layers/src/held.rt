@@ -1,32 +1,36 @@
 // The content in a layer, and what a take through the layer leaves of it.
-ghost use Rattle.std.specs.Prelude.{◌≡◌, ◌≤◌, false, length, Some, None, MatchOption};
+ghost use Rattle.std.specs.Prelude.{◌≡◌, ◌≤◌, false, length, option_map};
 ghost use Rattle.std.specs.List.{slice_get};
 ghost use Rattle.content.specs.Laws.{Within};
 ghost use Rattle.layers.specs.Places.{Change, by_place, first_at, last_at};
-ghost use Rattle.layers.specs.Takes.{Taken, TakenThrough};
 
 use content::{Content, Strip};
 
 #[derive(Drop)]
 pub(crate) struct Held<C> {
-    content: C,
-    // whether a strip was taken through the layer
-    begun: bool,
+    pub(crate) content: C,
+    // Whether a strip was taken through the layer. No value goes with it: the content is there either way.
+    pub(crate) begun: bool,
 }
 
-// A strip, and where it stands.
+/// A strip of a content, and where it stands in its layer.
 #[derive(Clone, Copy)]
-pub(crate) struct Placed {
-    pub(crate) strip: Strip,
-    // it is the first, and none was taken before it
-    pub(crate) first: bool,
-    pub(crate) last: bool,
+pub struct Placed {
+    pub strip: Strip,
+    /// It is the first, and none was taken before it. A lone strip is first and last, so neither tells the other.
+    pub first: bool,
+    pub last: bool,
+    ghost within: { Within 200000 strip },
 }
 
-// What is said of a list `by_place f` holds whatever change f the layer makes.
+// What is said of a list `held_left f` holds whatever change f the layer makes.
 impl<C: Content> Held<C> {
+    ghost use Rattle.layers.specs.Held.{held_left};
+    ghost use Rattle.layers.specs.Takes.{Taken, TakenThrough};
+
     pub(crate) fn new(content: C) -> Held<C>
-        ensures { (result.content ≡ content) × (result.begun ≡ false) }
+        ensures content { result.content ≡ content }
+        ensures begun { result.begun ≡ false }
     {
         Held {
             content,
@@ -41,16 +45,13 @@ impl<C: Content> Held<C> {
     }
 
     pub(crate) fn reach(&self) -> u32
-        ensures value { result ≡ C.reach self.now.content }
-        ensures bounded { result ≤ 200000 }
+        ensures { result ≡ C.reach self.now.content }
     {
         self.content.reach()
     }
 
     pub(crate) fn count(&self) -> u32
-        ensures value { result ≡ length (C.strips self.now.content) }
-        ensures through { (f : Change) → result ≡ length (by_place f self.now.begun (C.strips self.now.content)) }
-        ensures few { result ≤ 1000000 }
+        ensures { result ≡ length (C.strips self.now.content) }
     {
         self.content.count()
     }
@@ -64,35 +65,44 @@ impl<C: Content> Held<C> {
 
     // Strip i of those left, and where it stands.
     pub(crate) fn at(&self, i: u32) -> Option<Placed>
-        ensures { MatchOption result ((f : Change) → slice_get (by_place f self.now.begun (C.strips self.now.content)) i ≡ None) (λ p. Within 200000 p.strip × ((f : Change) → slice_get (by_place f self.now.begun (C.strips self.now.content)) i ≡ Some (f p.first p.last p.strip))) }
+        ensures {
+            (f : Change) →
+            slice_get (held_left C.Content f self.now) i
+            ≡ option_map (λ p. f p.first p.last p.strip) result
+        }
     {
         let strip = self.content.strip(i)?;
-        Some(self.placed(i, strip))
-    }
-
-    fn placed(&self, i: u32, strip: Strip) -> Placed
-        ensures { result ≡ record { strip = strip; first = first_at self.now.begun i; last = last_at (length (C.strips self.now.content)) i } }
-    {
-        Placed {
+        Some(Placed {
             strip,
-            first: !self.begun && i == 0,
-            last: i.checked_add(1) == Some(self.content.count()),
-        }
+            first: self.is_first(i),
+            last: self.is_last(i),
+        })
     }
 
+    fn is_first(&self, i: u32) -> bool
+        ensures { result ≡ first_at self.now.begun i }
+    {
+        !self.begun && i == 0
+    }
+
+    fn is_last(&self, i: u32) -> bool
+        ensures { result ≡ last_at (length (C.strips self.now.content)) i }
+    {
+        i.checked_add(1) == Some(self.content.count())
+    }
+
+    #[tactic(auto, using(crate::proofs::Passing::taken_through))]
     // Takes k strips through the layer, or says no where fewer are left.
     pub(crate) fn take(&mut self, k: u32) -> bool
-        ensures taken { Taken k result self.old.begun (C.strips self.old.content) self.new.begun (C.strips self.new.content) }
-        ensures through { TakenThrough k result self.old.begun (C.strips self.old.content) self.new.begun (C.strips self.new.content) }
-        ensures reach { C.reach self.new.content ≡ C.reach self.old.content }
+        ensures taken { Taken C.Content k result self.old self.new }
+        ensures through { TakenThrough C.Content k result self.old self.new }
     {
         self.advance(k)
     }
 
     // The take itself. `take` adds what it means for the lists that layers make.
     fn advance(&mut self, k: u32) -> bool
-        ensures taken { Taken k result self.old.begun (C.strips self.old.content) self.new.begun (C.strips self.new.content) }
-        ensures reach { C.reach self.new.content ≡ C.reach self.old.content }
+        ensures { Taken C.Content k result self.old self.new }
     {
         let done = self.content.take(k);
         self.begun = self.begun || (done && 0 < k);

@@ -1,41 +1,59 @@
 // How the parts of a pair are joined.
-ghost use Rattle.std.specs.Prelude.{◌≡◌, ◌≤◌};
-ghost use Rattle.layers.specs.Pairs.{joined, joined_rank, joint_fits, word_number, word_of};
+ghost use Rattle.std.specs.Prelude.{◌≡◌};
+ghost use Rattle.layers.specs.Pairs.{NamesWord, joined, joined_rank, joint_fits, word_number};
 
 use crate::held::Placed;
 use content::{Rank, Strip};
+use std::error::Error;
+use std::fmt;
 
-// What is asked of the break between two parts.
+/// What is asked of the break between two parts. The numbers are 0 to 2.
 #[derive(Clone, Copy, PartialEq, Eq, Debug)]
 pub enum BreakWord {
+    /// Nothing.
     Auto,
+    /// Better no break, unless it is forced.
     Avoid,
+    /// The page has to end there.
     Force,
 }
 
-impl BreakWord {
-    pub fn number(self) -> u32
-        ensures { result ≡ word_number self }
-    {
-        match self {
-            BreakWord::Auto => 0,
-            BreakWord::Avoid => 1,
-            BreakWord::Force => 2,
-        }
-    }
+/// A number that no break word has.
+#[derive(Clone, Copy, PartialEq, Eq, Debug)]
+pub struct UnknownWord(pub u32);
 
-    // The word that has this number.
-    pub fn from_number(number: u32) -> Option<BreakWord>
-        ensures { result ≡ word_of number }
-    {
+impl From<BreakWord> for u32 {
+    ghost from_gives = { λ word number. number ≡ word_number word };
+
+    fn from(word: BreakWord) -> u32 {
+        word as u32
+    }
+}
+
+impl TryFrom<u32> for BreakWord {
+    type Error = UnknownWord;
+
+    ghost try_from_gives = { NamesWord };
+
+    fn try_from(number: u32) -> Result<BreakWord, UnknownWord> {
         match number {
-            0 => Some(BreakWord::Auto),
-            1 => Some(BreakWord::Avoid),
-            2 => Some(BreakWord::Force),
-            _ => None,
+            0 => Ok(BreakWord::Auto),
+            1 => Ok(BreakWord::Avoid),
+            2 => Ok(BreakWord::Force),
+            _ => Err(UnknownWord(number)),
         }
     }
+}
 
+impl fmt::Display for UnknownWord {
+    fn fmt<W: fmt::Write>(&self, f: &mut fmt::Formatter<W>) -> fmt::Result {
+        write!(f, "no break word has number {}", self.0)
+    }
+}
+
+impl Error for UnknownWord {}
+
+impl BreakWord {
     // The rank of the break between the parts, where the second begins with a strip of this rank.
     fn grade(self, rank: Rank) -> Rank
         ensures { result ≡ joined_rank self rank }
@@ -48,7 +66,7 @@ impl BreakWord {
     }
 }
 
-#[derive(Clone, Copy)]
+#[derive(Clone, Copy, PartialEq, Eq, Debug)]
 pub(crate) struct Joint {
     pub(crate) word: BreakWord,
     pub(crate) gap: u32,
@@ -57,11 +75,9 @@ pub(crate) struct Joint {
 impl Joint {
     // Whether parts of so many strips may be joined so.
     pub(crate) fn fits(self, first: u32, second: u32) -> bool
-        requires first { first ≤ 1000000 }
-        requires second { second ≤ 1000000 }
         ensures { result ≡ joint_fits first second self }
     {
-        self.gap <= 4_095 && first + second <= 1_000_000
+        self.gap <= 4_095 && first.saturating_add(second) <= 1_000_000
     }
 
     // A strip of the second part, as the pair shows it.

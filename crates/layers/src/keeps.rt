@@ -1,65 +1,53 @@
 // A keep: its strips would rather stay on one page.
 ghost use Rattle.std.specs.Prelude.{◌≡◌, false};
-ghost use Rattle.layers.specs.Keeps.{kept, keep_left};
+ghost use Rattle.layers.specs.Keeps.{keep_left, kept};
+ghost use Rattle.layers.specs.KeptStrips.{kept_lawful};
+ghost use Rattle.layers.specs.Layers.{content_of, is_begun};
 ghost use Rattle.layers.specs.Places.{by_place};
-ghost use Rattle.layers.specs.KeptStrips.{Lawful-keep_left};
 
-use crate::held::{Held, Placed};
+use crate::held::Placed;
+use crate::layer::{Effect, Layer};
 use content::{Content, Rank, Strip};
 
-#[derive(Drop)]
-pub struct Keep<C> {
-    held: Held<C>,
+/// Grades the breaks between the strips of a layer as against an avoid.
+#[derive(Clone, Copy, PartialEq, Eq, Debug)]
+pub struct Keeping;
+
+impl Effect for Keeping {
+    ghost change = { λ _ _. kept };
+
+    ghost reach = { λ _ reach. reach };
+
+    ghost lawful = { λ _. kept_lawful };
+
+    ghost bounded = { λ _ _ bounded. bounded };
+
+    fn change(&self, _below: u32, placed: Placed) -> Strip {
+        let strip = placed.strip;
+        if placed.first || strip.rank == Rank::Forced {
+            strip
+        } else {
+            Strip {
+                rank: Rank::AgainstAvoid,
+                ..strip
+            }
+        }
+    }
+
+    fn reach(&self, below: u32) -> u32 {
+        below
+    }
 }
 
-impl<C: Content> Keep<C> {
+/// Asks for no break between the strips of its content. A forced one stays forced.
+pub type Keep<C> = Layer<Keeping, C>;
+
+impl<C: Content> Layer<Keeping, C> {
     pub fn new(content: C) -> Keep<C>
-        ensures held { (result.held.content ≡ content) × (result.held.begun ≡ false) }
-        ensures left { keep_left C.strips result ≡ by_place kept false (C.strips content) }
+        ensures content { content_of result ≡ content }
+        ensures begun { is_begun result ≡ false }
+        ensures left { keep_left C.Content result ≡ by_place kept false (C.strips content) }
     {
-        Keep {
-            held: Held::new(content),
-        }
-    }
-}
-
-fn kept(placed: Placed) -> Strip
-    ensures { result ≡ kept placed.first placed.last placed.strip }
-{
-    let strip = placed.strip;
-    if placed.first || strip.rank == Rank::Forced {
-        strip
-    } else {
-        Strip {
-            rank: Rank::AgainstAvoid,
-            ..strip
-        }
-    }
-}
-
-impl<C: Content> Content for Keep<C> {
-    ghost strips = { keep_left C.Content.strips };
-
-    ghost reach = { λ k. C.Content.reach k.held.content };
-
-    ghost lawful = { Lawful-keep_left C.Content.strips C.Content.reach C.Content.lawful };
-
-    fn reach(&self) -> u32 {
-        self.held.reach()
-    }
-
-    fn count(&self) -> u32 {
-        self.held.count()
-    }
-
-    fn strip(&self, i: u32) -> Option<Strip> {
-        match self.held.at(i) {
-            Some(placed) => Some(kept(placed)),
-            None => None,
-        }
-    }
-
-    fn take(&mut self, k: u32) -> bool {
-        self.held.take(k)
+        Layer::round(Keeping, content)
     }
 }

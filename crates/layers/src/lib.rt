@@ -1,4 +1,4 @@
-// Layers: each holds any content and is one.
+//! Layers: each holds any content and is one.
 #![tactic(auto)]
 
 mod boxes;
@@ -6,12 +6,13 @@ mod faults;
 mod held;
 mod joints;
 mod keeps;
+mod layer;
 mod padding;
 mod pairs;
 
 pub use boxes::PaddingBox;
 pub use faults::LayerFault;
-pub use joints::BreakWord;
+pub use joints::{BreakWord, UnknownWord};
 pub use keeps::Keep;
 pub use padding::{DecorationBreak, Padding};
 pub use pairs::Pair;

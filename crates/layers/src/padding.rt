@@ -1,34 +1,24 @@
 // The padding of a box.
-ghost use Rattle.std.specs.Prelude.{◌≡◌, ℕ, ◌+◌, ◌≤◌, Bool, List, if◌then◌else◌};
-ghost use Rattle.content.specs.declared.strips.Strip.{Strip};
-ghost use Rattle.content.specs.Laws.{Within};
-ghost use Rattle.layers.specs.Boxes.{bare_padding, padded, padding_fits, padding_over, repeats};
-ghost use Rattle.layers.specs.Places.{by_place};
+ghost use Rattle.std.specs.Prelude.{◌≡◌, ◌+◌, ◌≤◌, if◌then◌else◌};
+ghost use Rattle.layers.specs.Boxes.{padded, padded_reach, padding_fits, padding_over};
+ghost use Rattle.layers.specs.PaddedStrips.{padded_lawful, padding_bounded};
 
 use crate::held::Placed;
+use crate::layer::Effect;
 use content::Strip;
 
-// What becomes of padding where a page ends inside its box.
-#[derive(Clone, Copy)]
+/// What becomes of padding where a page ends inside its box.
+#[derive(Clone, Copy, Default, PartialEq, Eq, Debug)]
 pub enum DecorationBreak {
-    // it is cut: the top stands above the first strip, and the bottom below the last
+    /// It is cut: the top stands above the first strip, and the bottom below the last.
+    #[default]
     Slice,
-    // it is repeated on each page
+    /// It is repeated on each page.
     Clone,
 }
 
-impl DecorationBreak {
-    fn repeats(self) -> bool
-        ensures { result ≡ repeats self }
-    {
-        match self {
-            DecorationBreak::Slice => false,
-            DecorationBreak::Clone => true,
-        }
-    }
-}
-
-#[derive(Clone, Copy)]
+/// How much stands above and below the strips of a box.
+#[derive(Clone, Copy, Default, PartialEq, Eq, Debug)]
 pub struct Padding {
     pub top: u32,
     pub bottom: u32,
@@ -36,55 +26,50 @@ pub struct Padding {
 }
 
 impl Padding {
-    // What a box starts with: it changes nothing.
-    pub(crate) fn bare() -> Padding
-        ensures value { result ≡ bare_padding }
-        ensures left { (reach : ℕ) (begun : Bool) (xs : List Strip) → by_place (padded (padding_over reach result)) begun xs ≡ xs }
-        ensures reach { (reach : ℕ) → reach + (padding_over reach result).top + (padding_over reach result).bottom ≡ reach }
-    {
-        Padding {
-            top: 0,
-            bottom: 0,
-            at_breaks: DecorationBreak::Slice,
-        }
-    }
-
     // Whether a box may have it, over a content of this reach.
     pub(crate) fn fits(self, reach: u32) -> bool
-        requires { reach ≤ 200000 }
         ensures { result ≡ padding_fits reach self }
     {
-        self.top <= 4_095 && self.bottom <= 4_095 && reach + self.top + self.bottom <= 200_000
+        let sum = reach.saturating_add(self.top).saturating_add(self.bottom);
+        self.top <= 4_095 && self.bottom <= 4_095 && sum <= 200_000
     }
 
     // What it means over a content of this reach: past the limits, nothing.
-    pub(crate) fn over(self, reach: u32) -> Padding
-        requires { reach ≤ 200000 }
-        ensures value { result ≡ padding_over reach self }
-        ensures low { reach + result.top + result.bottom ≤ 200000 }
+    fn over(self, reach: u32) -> Padding
+        ensures { result ≡ padding_over reach self }
     {
         if self.fits(reach) {
             self
         } else {
-            Padding::bare()
+            Padding::default()
+        }
+    }
+}
+
+impl Effect for Padding {
+    ghost change = { λ by reach. padded (padding_over reach by) };
+
+    ghost reach = { λ by reach. padded_reach reach (padding_over reach by) };
+
+    ghost lawful = { λ by reach. padded_lawful (padding_over reach by) reach };
+
+    ghost bounded = { λ by reach. padding_bounded reach by };
+
+    fn change(&self, below: u32, placed: Placed) -> Strip {
+        let by = self.over(below);
+        let repeated = by.at_breaks == DecorationBreak::Clone;
+        let strip = placed.strip;
+        Strip {
+            height: strip.height + share(placed.first, by.top) + share(placed.last, by.bottom),
+            head: strip.head + share(repeated && !placed.first, by.top),
+            tail: strip.tail + share(repeated && !placed.last, by.bottom),
+            ..strip
         }
     }
 
-    // A strip with its share of it.
-    pub(crate) fn pad(self, placed: Placed) -> Strip
-        requires top { self.top ≤ 200000 }
-        requires bottom { self.bottom ≤ 200000 }
-        requires within { Within 200000 placed.strip }
-        ensures { result ≡ padded self placed.first placed.last placed.strip }
-    {
-        let strip = placed.strip;
-        let repeated = self.at_breaks.repeats();
-        Strip {
-            height: strip.height + share(placed.first, self.top) + share(placed.last, self.bottom),
-            head: strip.head + share(repeated && !placed.first, self.top),
-            tail: strip.tail + share(repeated && !placed.last, self.bottom),
-            ..strip
-        }
+    fn reach(&self, below: u32) -> u32 {
+        let by = self.over(below);
+        below + by.top + by.bottom
     }
 }
 

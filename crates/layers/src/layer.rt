@@ -1,0 +1,89 @@
+// One layer round a content, whatever it does to the strips.
+ghost use Rattle.std.specs.Prelude.{◌≡◌, ℕ, ◌≤◌, false};
+ghost use Rattle.layers.specs.Places.{Change};
+ghost use Rattle.layers.specs.LawfulChange.{LawfulChange};
+
+use crate::held::{Held, Placed};
+use content::{Content, Strip};
+
+/// What a layer does to the strips of its content.
+pub trait Effect {
+    // the change that it makes to a strip, over a content of this reach
+    ghost change: { Self → ℕ → Change };
+
+    // the reach that comes of it
+    ghost reach: { Self → ℕ → ℕ };
+
+    fn change(&self, below: u32, placed: Placed) -> Strip
+        ensures { result ≡ change self.now below placed.first placed.last placed.strip };
+
+    fn reach(&self, below: u32) -> u32
+        ensures { result ≡ reach self.now below };
+
+    ghost lawful: { (by : Self) (low : ℕ) → LawfulChange (change by low) low (reach by low) };
+
+    ghost bounded: { (by : Self) (low : ℕ) → low ≤ 200000 → reach by low ≤ 200000 };
+}
+
+#[derive(Drop)]
+pub struct Layer<E, C> {
+    pub(crate) effect: E,
+    pub(crate) held: Held<C>,
+}
+
+impl<E, C: Content> Layer<E, C> {
+    ghost use Rattle.layers.specs.Layers.{content_of, effect_of, is_begun};
+
+    // A layer through which no strip was taken.
+    pub(crate) fn round(effect: E, content: C) -> Layer<E, C>
+        ensures content { content_of result ≡ content }
+        ensures begun { is_begun result ≡ false }
+        ensures effect { effect_of result ≡ effect }
+    {
+        Layer {
+            effect,
+            held: Held::new(content),
+        }
+    }
+}
+
+impl<E: Effect, C: Content> Content for Layer<E, C> {
+    ghost use Rattle.layers.specs.Layers.{TakenBelow, layer_left, layer_reach};
+    ghost use Rattle.layers.specs.LawfulLayers.{Lawful-layer_left};
+    ghost use Rattle.layers.specs.Takes.{TakenOff};
+
+    ghost strips = { layer_left E.Effect C.Content };
+
+    ghost reach = { layer_reach E.Effect C.Content };
+
+    ghost lawful = { Lawful-layer_left E.Effect.own C.Content.own E.lawful E.bounded C.lawful };
+
+    fn reach(&self) -> u32 {
+        self.effect.reach(self.held.reach())
+    }
+
+    #[tactic(auto, using(crate::proofs::Passing::held_count))]
+    fn count(&self) -> u32 {
+        self.held.count()
+    }
+
+    fn strip(&self, i: u32) -> Option<Strip> {
+        self.held
+            .at(i)
+            .map(|placed| self.effect.change(self.held.reach(), placed))
+    }
+
+    fn take(&mut self, k: u32) -> bool
+        ensures left {
+            TakenOff k result
+                (layer_left E.Effect C.Content self.old)
+                (layer_left E.Effect C.Content self.new)
+        }
+        ensures reach {
+            layer_reach E.Effect C.Content self.new ≡ layer_reach E.Effect C.Content self.old
+        }
+        ensures below { TakenBelow C.Content k result self.old self.new }
+    {
+        self.held.take(k)
+    }
+}
