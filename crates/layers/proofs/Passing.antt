@@ -3,6 +3,7 @@ use Rattle.std.specs.Prelude.{◌≡◌, ℕ, ◌≤◌, Bool, true, false, ◌&
 use Rattle.std.proofs.Common.{sym, ap, ◌∙◌, arith}
 use Rattle.std.proofs.lemmas.List.{length-drop}
 use Rattle.std.proofs.lemmas.Bool.{ltb-false}
+use Rattle.std.proofs.Math.Bool.{or-false}
 use Rattle.content.specs.declared.contents.Content.{Ghosts as Meaning}
 use Rattle.content.specs.declared.strips.Strip.{Strip}
 use Rattle.layers.specs.declared.held.Held.{Held}
@@ -15,10 +16,7 @@ use Rattle.layers.proofs.Places.{drop-by_place}
 module _ (k : ℕ) (begun : Bool) (xs : List Strip) where
   left_by_place : (f : Change) (r : Bool) → by_place f (begun || (r && nat_lt 0 k)) (if r then drop k xs else xs) ≡ (if r then drop k (by_place f begun xs) else by_place f begun xs)
   left_by_place f true = sym (drop-by_place f begun k xs)
-  left_by_place f false = ap (λ b. by_place f b xs) (or_false begun) where
-    or_false : (b : Bool) → (b || false) ≡ b
-    or_false true = refl
-    or_false false = refl
+  left_by_place f false = ap (λ b. by_place f b xs) (or-false begun)
 
   left_fewer : (r : Bool) → length (if r then drop k xs else xs) ≤ length xs
   left_fewer true = omega (arith, length-drop k xs)

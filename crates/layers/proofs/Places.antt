@@ -3,6 +3,7 @@ use Rattle.std.specs.Prelude.{◌≡◌, ℕ, zero, suc, Bool, true, false, ◌|
 use Rattle.std.specs.List.{slice_get}
 use Rattle.std.proofs.Common.{sym, ap, ◌∙◌, arith}
 use Rattle.std.proofs.lemmas.Bool.{lt-ltb}
+use Rattle.content.proofs.Lawful.{Bounded-slice_get}
 use Rattle.content.specs.declared.strips.Strip.{Strip}
 use Rattle.layers.specs.Places.{Change, by_place, first_at, last_at}
 use Rattle.layers.specs.PlacesLemmas.{first_more, last_more, last_none}
@@ -24,3 +25,6 @@ module _ (f : Change) where
   drop-by_place begun (suc k) [] = refl
   drop-by_place true (suc k) (x ∷ xs) = drop-by_place true k xs
   drop-by_place false (suc k) (x ∷ xs) = drop-by_place true k xs ∙ ap (λ b. by_place f b (drop k xs)) (sym (lt-ltb 0 (suc k) (omega arith)))
+
+-- What is read of a layer.
+pub ruleset reads = (slice_get-by_place, Bounded-slice_get)

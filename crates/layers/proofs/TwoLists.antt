@@ -2,7 +2,8 @@
 use Rattle.std.proofs.Common.{◌≡◌, ℕ, zero, suc, ◌+◌, ◌-◌, ◌<◌, ◌≤◌, List, [], ◌∷◌, ◌++◌, length, drop, Some, None, Option, sym, refl, ap, ◌∙◌, inl, inr, suc-add, zero-add, arith, MatchOption}
 use Rattle.std.specs.List.{slice_get}
 use Rattle.std.specs.Option.{SomeIff}
-use Rattle.std.proofs.lemmas.List.{drop_all, drop-append-le, drop_at, drop-drop}
+use Rattle.std.proofs.lemmas.List.{drop_all, drop-append-le}
+use Rattle.std.proofs.Math.Seq.{drop-append-add}
 use Rattle.std.proofs.lemmas.Bool.{cases_lt}
 use Rattle.content.specs.declared.strips.Strip.{Strip}
 use Rattle.layers.specs.TwoLists.{Inside, Beyond}
@@ -23,10 +24,7 @@ module _ (xs : List Strip) (i j : ℕ) (e : length xs + j ≡ i) where
   drop_beyond : (ys : List Strip) → drop i (xs ++ ys) ≡ drop (i - j) xs ++ drop j ys
   drop_beyond ys =
       let gone : drop (i - j) xs ≡ [] = drop_all (i - j) xs (omega arith) in
-      ap (λ n. drop n (xs ++ ys)) (sym e)
-      ∙ sym (drop-drop j (length xs) (xs ++ ys))
-      ∙ ap (drop j) (drop_at xs ys (length xs) refl)
-      ∙ ap (λ zs. zs ++ drop j ys) (sym gone)
+      ap (λ n. drop n (xs ++ ys)) (sym e) ∙ drop-append-add xs ys j ∙ ap (λ zs. zs ++ drop j ys) (sym gone)
 
   pub beyond : Beyond xs i j
   beyond = record { here = e; read = λ ys. ap (slice_get (xs ++ ys)) (sym e) ∙ slice_get_beyond xs ys j; rest = drop_beyond }

@@ -9,7 +9,7 @@ use Rattle.layers.specs.declared.padding.DecorationBreak.{DecorationBreak}
 use Rattle.layers.specs.declared.padding.DecorationBreak.TheVariants.{Slice, Clone}
 use Rattle.layers.specs.declared.padding.Padding.{Padding}
 use Rattle.layers.specs.Held.{held_left}
-use Rattle.layers.specs.Layers.{content_of, effect_of}
+use Rattle.layers.specs.Layers.{content_of, effect_of, is_begun}
 use Rattle.layers.specs.Places.{Change, by_place}
 
 -- Cut at a page end, or repeated on each page.
@@ -75,3 +75,7 @@ module _ {C : Type 0} (m : Meaning C) where
 -- A box is set before any strip is taken through it, and within the limits.
 abbrev pub box_checked : Bool → ℕ → Padding → Result (Unit {0}) LayerFault
 box_checked begun reach by = if begun then Err Begun else if padding_fits reach by then Ok tt else Err BoxLimit
+
+-- What setting it to some padding comes to.
+abbrev pub set_checked : {C : Type 0} → Meaning C → PaddingBox C → Padding → Result (Unit {0}) LayerFault
+set_checked m b = box_checked (is_begun b) (m.reach (content_of b))

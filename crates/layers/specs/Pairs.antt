@@ -1,5 +1,5 @@
 -- A pair sets one content after another.
-use Rattle.std.specs.Prelude.{◌≡◌, ℕ, ◌+◌, max, Bool, false, ◌&&◌, ◌||◌, List, ◌++◌, length, Some, None, Ok, Err, Option, Result, MatchResult, if◌then◌else◌, ◌==◌, nat_le, nat_lt}
+use Rattle.std.specs.Prelude.{◌≡◌, ℕ, ◌+◌, codes, decimal, max, Bool, false, ◌&&◌, ◌||◌, List, ◌++◌, length, Some, None, Ok, Err, Option, Result, MatchResult, if◌then◌else◌, ◌==◌, nat_le, nat_lt}
 use Rattle.content.specs.declared.contents.Content.{Ghosts as Meaning}
 use Rattle.content.specs.declared.ranks.Rank.{Rank}
 use Rattle.content.specs.declared.ranks.Rank.TheVariants.{Forced, Free, AgainstOrphansOrWidows, AgainstAvoid}
@@ -85,16 +85,17 @@ module _ {A B : Type 0} where
   abbrev pub pair_begun : Pair A B → Bool
   pair_begun p = p.first.begun || p.second.begun
 
+  -- How many strips are left of each part.
+  abbrev pub first_count : Meaning A → Pair A B → ℕ
+  first_count a p = length (a.strips (first_of p))
+
+  abbrev pub second_count : Meaning B → Pair A B → ℕ
+  second_count b p = length (b.strips (second_of p))
+
   -- What is left of a pair, and its reach, by its parts' strips and reaches.
   module _ (a : Meaning A) (b : Meaning B) where
-    abbrev pub first_count : Pair A B → ℕ
-    first_count p = length (a.strips (first_of p))
-
-    abbrev pub second_count : Pair A B → ℕ
-    second_count p = length (b.strips (second_of p))
-
     abbrev pub pair_joint : Pair A B → Option Joint
-    pair_joint p = joint_over (first_count p) (second_count p) (joint_of p)
+    pair_joint p = joint_over (first_count a p) (second_count b p) (joint_of p)
 
     abbrev pub left_by : Option Joint → Pair A B → List Strip
     left_by j p = linked j (a.strips (first_of p)) p.second.begun (b.strips (second_of p))
@@ -125,6 +126,10 @@ module _ {A B : Type 0} where
       pub reach_first : a.reach (first_of new) ≡ a.reach (first_of old)
       pub reach_second : b.reach (second_of new) ≡ b.reach (second_of old)
 
+-- What an unknown word says of itself.
+abbrev pub unknown_words : UnknownWord → List ℕ
+unknown_words unknown = codes "no break word has number " ++ decimal unknown.0
+
 -- The checks of a joint, where the parts have m and n strips.
 abbrev pub joint_checked : ℕ → ℕ → ℕ → Option BreakWord → Result Joint LayerFault
 joint_checked m n space None = Err PairLimit
@@ -133,3 +138,7 @@ joint_checked m n space (Some by) = if joint_fits m n (record { word = by; gap =
 -- A pair is joined before any strip is taken through it, by a word's number and a gap within the limits.
 abbrev pub pair_checked : Bool → ℕ → ℕ → ℕ → ℕ → Result Joint LayerFault
 pair_checked begun m n number space = if begun then Err Begun else joint_checked m n space (word_of number)
+
+-- What a join by that number and gap comes to.
+abbrev pub join_checked : {A B : Type 0} → Meaning A → Meaning B → Pair A B → ℕ → ℕ → Result Joint LayerFault
+join_checked a b p = pair_checked (pair_begun p) (first_count a p) (second_count b p)

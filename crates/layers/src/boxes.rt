@@ -1,6 +1,6 @@
 // A box: padding round a content.
 ghost use Rattle.std.specs.Prelude.{◌≡◌, false};
-ghost use Rattle.layers.specs.Boxes.{PaddedBy, bare_padding, box_checked, box_left, box_reach, padding_of};
+ghost use Rattle.layers.specs.Boxes.{PaddedBy, bare_padding, box_left, box_reach, padding_of, set_checked};
 ghost use Rattle.layers.specs.Layers.{content_of, is_begun};
 ghost use Rattle.layers.specs.Settled.{Settled};
 
@@ -28,7 +28,7 @@ impl<C: Content> Layer<Padding, C> {
     pub fn set(&mut self, padding: Padding) -> Result<(), LayerFault>
         ensures {
             Settled self.old self.new
-                (box_checked (is_begun self.old) (C.reach (content_of self.old)) padding)
+                (set_checked C.Content self.old padding)
                 (λ _. PaddedBy C.Content padding self.old self.new)
                 result
         }
@@ -39,9 +39,7 @@ impl<C: Content> Layer<Padding, C> {
     }
 
     fn check(&self, padding: Padding) -> Result<(), LayerFault>
-        ensures {
-            result ≡ box_checked (is_begun self.now) (C.reach (content_of self.now)) padding
-        }
+        ensures { result ≡ set_checked C.Content self.now padding }
     {
         if self.held.begun() {
             return Err(LayerFault::Begun);

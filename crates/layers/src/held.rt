@@ -8,9 +8,9 @@ use content::{Content, Strip};
 
 #[derive(Drop)]
 pub(crate) struct Held<C> {
-    pub(crate) content: C,
+    content: C,
     // Whether a strip was taken through the layer. No value goes with it: the content is there either way.
-    pub(crate) begun: bool,
+    begun: bool,
 }
 
 /// A strip of a content, and where it stands in its layer.
@@ -64,6 +64,7 @@ impl<C: Content> Held<C> {
     }
 
     // Strip i of those left, and where it stands.
+    #[tactic(auto, using(crate::proofs::Places::reads))]
     pub(crate) fn at(&self, i: u32) -> Option<Placed>
         ensures {
             (f : Change) →
@@ -91,8 +92,8 @@ impl<C: Content> Held<C> {
         i.checked_add(1) == Some(self.content.count())
     }
 
-    #[tactic(auto, using(crate::proofs::Passing::taken_through))]
     // Takes k strips through the layer, or says no where fewer are left.
+    #[tactic(auto, using(crate::proofs::Passing::taken_through))]
     pub(crate) fn take(&mut self, k: u32) -> bool
         ensures taken { Taken C.Content k result self.old self.new }
         ensures through { TakenThrough C.Content k result self.old self.new }

@@ -1,6 +1,6 @@
 // How the parts of a pair are joined.
-ghost use Rattle.std.specs.Prelude.{◌≡◌};
-ghost use Rattle.layers.specs.Pairs.{NamesWord, joined, joined_rank, joint_fits, word_number};
+ghost use Rattle.std.specs.Prelude.{◌≡◌, Some};
+ghost use Rattle.layers.specs.Pairs.{NamesWord, joined, joined_rank, joint_fits, unknown_words, word_number};
 
 use crate::held::Placed;
 use content::{Rank, Strip};
@@ -46,6 +46,8 @@ impl TryFrom<u32> for BreakWord {
 }
 
 impl fmt::Display for UnknownWord {
+    ghost output = { λ unknown. Some (unknown_words unknown) };
+
     fn fmt<W: fmt::Write>(&self, f: &mut fmt::Formatter<W>) -> fmt::Result {
         write!(f, "no break word has number {}", self.0)
     }
@@ -66,7 +68,7 @@ impl BreakWord {
     }
 }
 
-#[derive(Clone, Copy, PartialEq, Eq, Debug)]
+#[derive(Clone, Copy)]
 pub(crate) struct Joint {
     pub(crate) word: BreakWord,
     pub(crate) gap: u32,

@@ -10,7 +10,7 @@ use crate::layer::{Effect, Layer};
 use content::{Content, Rank, Strip};
 
 /// Grades the breaks between the strips of a layer as against an avoid.
-#[derive(Clone, Copy, PartialEq, Eq, Debug)]
+#[derive(Clone, Copy)]
 pub struct Keeping;
 
 impl Effect for Keeping {

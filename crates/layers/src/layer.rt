@@ -20,11 +20,13 @@ pub trait Effect {
     fn reach(&self, below: u32) -> u32
         ensures { result ≡ reach self.now below };
 
+    // so a layer round a content keeps the laws of a content
     ghost lawful: { (by : Self) (low : ℕ) → LawfulChange (change by low) low (reach by low) };
 
     ghost bounded: { (by : Self) (low : ℕ) → low ≤ 200000 → reach by low ≤ 200000 };
 }
 
+/// A content, and what is done to its strips.
 #[derive(Drop)]
 pub struct Layer<E, C> {
     pub(crate) effect: E,

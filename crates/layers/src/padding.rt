@@ -73,6 +73,7 @@ impl Effect for Padding {
     }
 }
 
+// An `if` and not an Option made to be unwrapped.
 fn share(gains: bool, padding: u32) -> u32
     ensures value { result ≡ (if gains then padding else 0) }
     ensures low { result ≤ padding }

@@ -20,7 +20,7 @@ pub struct Pair<A, B> {
 }
 
 impl<A: Content, B: Content> Pair<A, B> {
-    ghost use Rattle.layers.specs.Pairs.{JoinedBy, PartsLeft, both_left, first_count, first_of, joint_of, joint_over, pair_begun, pair_checked, pair_joint, pair_left, pair_reach, second_count, second_of};
+    ghost use Rattle.layers.specs.Pairs.{JoinedBy, PartsLeft, both_left, first_count, first_of, join_checked, joint_of, joint_over, pair_begun, pair_joint, pair_left, pair_reach, second_count, second_of};
     ghost use Rattle.layers.specs.Takes.{TakenOff};
 
     pub fn new(first: A, second: B) -> Pair<A, B>
@@ -43,9 +43,7 @@ impl<A: Content, B: Content> Pair<A, B> {
     pub fn join(&mut self, word: u32, gap: u32) -> Result<(), LayerFault>
         ensures {
             Settled self.old self.new
-                (pair_checked (pair_begun self.old)
-                    (first_count A.Content B.Content self.old)
-                    (second_count A.Content B.Content self.old) word gap)
+                (join_checked A.Content B.Content self.old word gap)
                 (λ by. JoinedBy A.Content B.Content by self.old self.new)
                 result
         }
@@ -55,11 +53,7 @@ impl<A: Content, B: Content> Pair<A, B> {
     }
 
     fn check(&self, word: u32, gap: u32) -> Result<Joint, LayerFault>
-        ensures {
-            result ≡ pair_checked (pair_begun self.now)
-                (first_count A.Content B.Content self.now)
-                (second_count A.Content B.Content self.now) word gap
-        }
+        ensures { result ≡ join_checked A.Content B.Content self.now word gap }
     {
         if self.first.begun() || self.second.begun() {
             return Err(LayerFault::Begun);
@@ -74,7 +68,7 @@ impl<A: Content, B: Content> Pair<A, B> {
 
     // The joint that the pair means, where its parts have so many strips: none past the limits.
     fn joint_over(&self, first: u32, second: u32) -> Option<Joint>
-        ensures { result ≡ joint_over first second self.now.joint }
+        ensures { result ≡ joint_over first second (joint_of self.now) }
     {
         self.joint.filter(|joint| joint.fits(first, second))
     }
@@ -86,24 +80,15 @@ impl<A: Content, B: Content> Pair<A, B> {
     }
 
     // Which strip of the second part is strip i of both; None where it is one of the first.
+    #[tactic(auto, using(crate::proofs::TwoLists::inside_or_beyond))]
     fn beyond(&self, i: u32) -> Option<u32>
         ensures {
             MatchOption result
-                (Inside (A.Content.strips self.now.first.content) i)
-                (λ j. Beyond (A.Content.strips self.now.first.content) i j)
+                (Inside (A.Content.strips (first_of self.now)) i)
+                (Beyond (A.Content.strips (first_of self.now)) i)
         }
     {
         i.checked_sub(self.first.count())
-    }
-
-    // Strip i of both parts.
-    fn strip_joined(&self, joint: Joint, i: u32) -> Option<Strip>
-        ensures { result ≡ slice_get (both_left A.Content B.Content joint self.now) i }
-    {
-        let Some(j) = self.beyond(i) else {
-            return self.first.strip(i);
-        };
-        self.second.at(j).map(|placed| joint.join(placed))
     }
 
     // Takes k strips of joined parts, which stay joined.
@@ -130,13 +115,9 @@ impl<A: Content, B: Content> Pair<A, B> {
                 (both_left A.Content B.Content by self.old)
                 (both_left A.Content B.Content by self.new)
         }
-        ensures fewer_first {
-            first_count A.Content B.Content self.new ≤ first_count A.Content B.Content self.old
-        }
-        ensures fewer_second {
-            second_count A.Content B.Content self.new ≤ second_count A.Content B.Content self.old
-        }
-        ensures joint { self.new.joint ≡ self.old.joint }
+        ensures fewer_first { first_count A.Content self.new ≤ first_count A.Content self.old }
+        ensures fewer_second { second_count B.Content self.new ≤ second_count B.Content self.old }
+        ensures joint { joint_of self.new ≡ joint_of self.old }
         ensures parts { PartsLeft A.Content B.Content k result self.old self.new }
     {
         let Some(j) = self.beyond(k) else {
@@ -175,10 +156,10 @@ impl<A: Content, B: Content> Content for Pair<A, B> {
     }
 
     fn strip(&self, i: u32) -> Option<Strip> {
-        match self.joint() {
-            Some(joint) => self.strip_joined(joint, i),
-            None => self.first.strip(i),
-        }
+        let Some((joint, j)) = self.joint().zip(self.beyond(i)) else {
+            return self.first.strip(i);
+        };
+        self.second.at(j).map(|placed| joint.join(placed))
     }
 
     fn take(&mut self, k: u32) -> bool

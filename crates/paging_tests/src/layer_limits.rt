@@ -26,7 +26,7 @@ fn refusals(rt: HostRuntime) {
             node: 0,
             place: 0,
         };
-        assert_eq!(rt; fault.refusal(), refusal);
+        assert_eq!(rt; Refusal::from(fault), refusal);
     }
 }
 
@@ -160,9 +160,9 @@ fn break_words(rt: HostRuntime) {
         (3, None),
         (u32::MAX, None),
     ] {
-        assert_eq!(rt; BreakWord::from_number(number), word);
+        assert_eq!(rt; BreakWord::try_from(number).ok(), word);
         if let Some(word) = word {
-            assert_eq!(rt; word.number(), number);
+            assert_eq!(rt; u32::from(word), number);
         }
     }
 }

@@ -18,7 +18,7 @@ fn picture_and_kept_paragraph(rt: HostRuntime) -> Result<(), Fail> {
     // not joined, it is the picture alone
     assert_eq!(rt; page_end(&list, 350), (1, Rank::Free, 100));
     assert_eq!(rt; list.count(), 1);
-    list.join(BreakWord::Auto.number(), 0)?;
+    list.join(u32::from(BreakWord::Auto), 0)?;
     assert_eq!(rt; list.count(), 4);
     assert_eq!(rt; page_end(&list, 350), (1, Rank::Free, 100));
     assert_eq!(rt; page_end(&list, 400), (4, Rank::Free, 400));
@@ -31,7 +31,7 @@ fn picture_and_kept_paragraph(rt: HostRuntime) -> Result<(), Fail> {
 #[test]
 fn lines_joined_to_a_picture(rt: HostRuntime) -> Result<(), Fail> {
     let mut list = Pair::new(Paragraph::new(0, 100, 2, 2, 2)?, Picture::new(1, 500)?);
-    list.join(BreakWord::Avoid.number(), 0)?;
+    list.join(u32::from(BreakWord::Avoid), 0)?;
     assert_eq!(rt;
         page_end(&list, 550),
         (1, Rank::AgainstOrphansOrWidows, 100)
@@ -109,7 +109,7 @@ const TWO_PICTURES: [(BreakWord, u32, (u32, Rank, u32), (u32, Rank, u32)); 5] = 
 fn two_pictures(rt: HostRuntime) -> Result<(), Fail> {
     for (word, form, first, second) in TWO_PICTURES {
         let mut list = Pair::new(Picture::new(0, 100)?, Picture::new(1, 100)?);
-        list.join(word.number(), 40)?;
+        list.join(u32::from(word), 40)?;
         assert_eq!(rt; page_end(&list, form), first);
         assert!(rt; list.take(first.0));
         // the gap is dropped at the break

@@ -40,7 +40,7 @@ fn pile(
 ) -> Result<PaddingBox<Keep<Pair<PaddingBox<RowGroup>, Keep<Paragraph>>>>, Fail> {
     let remark = Keep::new(Paragraph::new(1, 50, 3, 2, 2)?);
     let mut list = Pair::new(rows_with_heading(heap)?, remark);
-    list.join(word.number(), 40)?;
+    list.join(u32::from(word), 40)?;
     let mut padded = PaddingBox::new(Keep::new(list));
     padded.set(Padding {
         top: 10,
