@@ -31,11 +31,11 @@ taken_through m k r old new t =
     let xs = m.strips old.content in
     record {
       strips = λ f. record {
-        done = t.strips.done ∙ ap (nat_le k) (sym (length-by_place f old.begun xs));
-        rest = ap (λ b. by_place f b (m.strips new.content)) t.begins ∙ ap (by_place f (old.begun || (r && nat_lt 0 k))) t.strips.rest ∙ left_by_place k old.begun xs f r;
+        done = t.content.strips.done ∙ ap (nat_le k) (sym (length-by_place f old.begun xs));
+        rest = ap (λ b. by_place f b (m.strips new.content)) t.begins ∙ ap (by_place f (old.begun || (r && nat_lt 0 k))) t.content.strips.rest ∙ left_by_place k old.begun xs f r;
       };
-      idle = λ none. t.strips.rest ∙ left_idle k old.begun xs r none;
-      fewer = omega (arith, ap length t.strips.rest, left_fewer k old.begun xs r);
+      idle = λ none. t.content.strips.rest ∙ left_idle k old.begun xs r none;
+      fewer = omega (arith, ap length t.content.strips.rest, left_fewer k old.begun xs r);
     }
 
 -- Nor does a change make the strips more or fewer.

@@ -35,3 +35,7 @@ module _ {E C : Type 0} where
 
     abbrev pub layer_reach : Layer E C → ℕ
     layer_reach l = e.reach (effect_of l) (m.reach (content_of l))
+
+    -- A layer as a content.
+    abbrev pub layer_content : Meaning (Layer E C)
+    layer_content = record { strips = layer_left; reach = layer_reach }

@@ -106,6 +106,10 @@ module _ {A B : Type 0} where
     abbrev pub pair_reach : Pair A B → ℕ
     pair_reach p = linked_reach (pair_joint p) (a.reach (first_of p)) (b.reach (second_of p))
 
+    -- A pair as a content.
+    abbrev pub pair_content : Meaning (Pair A B)
+    pair_content = record { strips = pair_left; reach = pair_reach }
+
     -- Both parts under some joint, within the limits or not.
     abbrev pub both_left : Joint → Pair A B → List Strip
     both_left by p = left_by (Some by) p

@@ -6,16 +6,20 @@ use Rattle.layers.specs.declared.held.Held.{Held}
 use Rattle.layers.specs.Held.{held_left}
 use Rattle.layers.specs.Places.{Change}
 
--- It found the strips xs and left xs': the first k are gone, or all are left where there are fewer.
+-- It found the strips xs and left xs'. The first k are gone, or all are left where there are fewer.
 pub record TakenOff (k : ℕ) (r : Bool) (xs xs' : List Strip) : Type 0 where
   pub done : r ≡ nat_le k (length xs)
   pub rest : xs' ≡ (if r then drop k xs else xs)
 
+-- It was taken from a content.
+pub record Takes {X : Type 0} (m : Meaning X) (k : ℕ) (r : Bool) (old new : X) : Type 0 where
+  pub strips : TakenOff k r (m.strips old) (m.strips new)
+  pub reach : m.reach new ≡ m.reach old
+
 module _ {C : Type 0} (m : Meaning C) (k : ℕ) (r : Bool) (old new : Held C) where
   -- It was taken through a layer, which is begun once a strip was.
   pub record Taken : Type 0 where
-    pub strips : TakenOff k r (m.strips old.content) (m.strips new.content)
-    pub reach : m.reach new.content ≡ m.reach old.content
+    pub content : Takes m k r old.content new.content
     pub begins : new.begun ≡ (old.begun || (r && nat_lt 0 k))
 
   -- What the layer shows, whatever change it makes, loses its first k strips too.

@@ -9,10 +9,11 @@ use crate::layer::Layer;
 use crate::padding::Padding;
 use content::Content;
 
-/// Pads its content above and below. It starts with no padding.
+/// Pads its content above and below.
 pub type PaddingBox<C> = Layer<Padding, C>;
 
 impl<C: Content> Layer<Padding, C> {
+    /// A box without padding.
     #[tactic(auto, using(crate::proofs::PaddedStrips::bare_box))]
     pub fn new(content: C) -> PaddingBox<C>
         ensures content { content_of result ≡ content }
@@ -21,17 +22,15 @@ impl<C: Content> Layer<Padding, C> {
         ensures left { box_left C.Content result ≡ C.strips content }
         ensures reach { box_reach C.Content result ≡ C.reach content }
     {
-        Layer::round(Padding::default(), content)
+        Layer::around(Padding::default(), content)
     }
 
     /// Sets the padding, or leaves the box as it was.
     pub fn set(&mut self, padding: Padding) -> Result<(), LayerFault>
-        ensures {
-            Settled self.old self.new
-                (set_checked C.Content self.old padding)
-                (λ _. PaddedBy C.Content padding self.old self.new)
-                result
-        }
+        ensures { Settled self.old self.new
+            (set_checked C.Content self.old padding)
+            (λ _. PaddedBy C.Content padding self.old self.new)
+            result }
     {
         self.check(padding)?;
         self.effect = padding;

@@ -9,7 +9,7 @@ use content::{Content, Strip};
 #[derive(Drop)]
 pub(crate) struct Held<C> {
     content: C,
-    // Whether a strip was taken through the layer. No value goes with it: the content is there either way.
+    // Whether a strip was taken through the layer. The content is there either way, so it is no Option.
     begun: bool,
 }
 
@@ -17,7 +17,7 @@ pub(crate) struct Held<C> {
 #[derive(Clone, Copy)]
 pub struct Placed {
     pub strip: Strip,
-    /// It is the first, and none was taken before it. A lone strip is first and last, so neither tells the other.
+    /// It is the first, and none was taken before it. A lone strip is both, so these are two flags.
     pub first: bool,
     pub last: bool,
     ghost within: { Within 200000 strip },
@@ -66,11 +66,9 @@ impl<C: Content> Held<C> {
     // Strip i of those left, and where it stands.
     #[tactic(auto, using(crate::proofs::Places::reads))]
     pub(crate) fn at(&self, i: u32) -> Option<Placed>
-        ensures {
-            (f : Change) →
+        ensures { (f : Change) →
             slice_get (held_left C.Content f self.now) i
-            ≡ option_map (λ p. f p.first p.last p.strip) result
-        }
+            ≡ option_map (λ p. f p.first p.last p.strip) result }
     {
         let strip = self.content.strip(i)?;
         Some(Placed {

@@ -68,6 +68,8 @@ impl BreakWord {
     }
 }
 
+pub(crate) const MAX_GAP: u32 = 4_095;
+
 #[derive(Clone, Copy)]
 pub(crate) struct Joint {
     pub(crate) word: BreakWord,
@@ -79,7 +81,7 @@ impl Joint {
     pub(crate) fn fits(self, first: u32, second: u32) -> bool
         ensures { result ≡ joint_fits first second self }
     {
-        self.gap <= 4_095 && first.saturating_add(second) <= 1_000_000
+        self.gap <= MAX_GAP && first.saturating_add(second) <= 1_000_000
     }
 
     // A strip of the second part, as the pair shows it.

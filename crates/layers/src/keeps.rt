@@ -48,6 +48,6 @@ impl<C: Content> Layer<Keeping, C> {
         ensures begun { is_begun result ≡ false }
         ensures left { keep_left C.Content result ≡ by_place kept false (C.strips content) }
     {
-        Layer::round(Keeping, content)
+        Layer::around(Keeping, content)
     }
 }

@@ -37,7 +37,7 @@ impl<E, C: Content> Layer<E, C> {
     ghost use Rattle.layers.specs.Layers.{content_of, effect_of, is_begun};
 
     // A layer through which no strip was taken.
-    pub(crate) fn round(effect: E, content: C) -> Layer<E, C>
+    pub(crate) fn around(effect: E, content: C) -> Layer<E, C>
         ensures content { content_of result ≡ content }
         ensures begun { is_begun result ≡ false }
         ensures effect { effect_of result ≡ effect }
@@ -50,9 +50,9 @@ impl<E, C: Content> Layer<E, C> {
 }
 
 impl<E: Effect, C: Content> Content for Layer<E, C> {
-    ghost use Rattle.layers.specs.Layers.{TakenBelow, layer_left, layer_reach};
+    ghost use Rattle.layers.specs.Layers.{TakenBelow, layer_content, layer_left, layer_reach};
     ghost use Rattle.layers.specs.LawfulLayers.{Lawful-layer_left};
-    ghost use Rattle.layers.specs.Takes.{TakenOff};
+    ghost use Rattle.layers.specs.Takes.{Takes};
 
     ghost strips = { layer_left E.Effect C.Content };
 
@@ -76,14 +76,7 @@ impl<E: Effect, C: Content> Content for Layer<E, C> {
     }
 
     fn take(&mut self, k: u32) -> bool
-        ensures left {
-            TakenOff k result
-                (layer_left E.Effect C.Content self.old)
-                (layer_left E.Effect C.Content self.new)
-        }
-        ensures reach {
-            layer_reach E.Effect C.Content self.new ≡ layer_reach E.Effect C.Content self.old
-        }
+        ensures taken { Takes (layer_content E.Effect C.Content) k result self.old self.new }
         ensures below { TakenBelow C.Content k result self.old self.new }
     {
         self.held.take(k)

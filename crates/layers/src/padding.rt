@@ -68,8 +68,8 @@ impl Effect for Padding {
     }
 
     fn reach(&self, below: u32) -> u32 {
-        let by = self.over(below);
-        below + by.top + by.bottom
+        let padding = self.over(below);
+        below + padding.top + padding.bottom
     }
 }
 

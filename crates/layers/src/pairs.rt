@@ -7,10 +7,10 @@ ghost use Rattle.layers.specs.TwoLists.{Beyond, Inside};
 
 use crate::faults::LayerFault;
 use crate::held::Held;
-use crate::joints::{BreakWord, Joint};
+use crate::joints::{BreakWord, Joint, MAX_GAP};
 use content::{Content, Strip};
 
-/// One content after another, once they are joined. Until then it is the first part alone.
+/// One content after another.
 #[derive(Drop)]
 pub struct Pair<A, B> {
     first: Held<A>,
@@ -20,9 +20,10 @@ pub struct Pair<A, B> {
 }
 
 impl<A: Content, B: Content> Pair<A, B> {
-    ghost use Rattle.layers.specs.Pairs.{JoinedBy, PartsLeft, both_left, first_count, first_of, join_checked, joint_of, joint_over, pair_begun, pair_joint, pair_left, pair_reach, second_count, second_of};
-    ghost use Rattle.layers.specs.Takes.{TakenOff};
+    ghost use Rattle.layers.specs.Pairs.{JoinedBy, PartsLeft, both_left, first_count, first_of, join_checked, joint_of, joint_over, pair_begun, pair_content, pair_joint, pair_left, pair_reach, second_count, second_of};
+    ghost use Rattle.layers.specs.Takes.{TakenOff, Takes};
 
+    /// The first part alone, until the parts are joined.
     pub fn new(first: A, second: B) -> Pair<A, B>
         ensures first { first_of result ≡ first }
         ensures second { second_of result ≡ second }
@@ -41,12 +42,10 @@ impl<A: Content, B: Content> Pair<A, B> {
     /// Joins the parts by a break word's number and a gap, or leaves the pair as it was.
     // The word comes as a number, since one that no word has is refused like a gap out of range.
     pub fn join(&mut self, word: u32, gap: u32) -> Result<(), LayerFault>
-        ensures {
-            Settled self.old self.new
-                (join_checked A.Content B.Content self.old word gap)
-                (λ by. JoinedBy A.Content B.Content by self.old self.new)
-                result
-        }
+        ensures { Settled self.old self.new
+            (join_checked A.Content B.Content self.old word gap)
+            (λ by. JoinedBy A.Content B.Content by self.old self.new)
+            result }
     {
         self.joint = Some(self.check(word, gap)?);
         Ok(())
@@ -82,11 +81,9 @@ impl<A: Content, B: Content> Pair<A, B> {
     // Which strip of the second part is strip i of both; None where it is one of the first.
     #[tactic(auto, using(crate::proofs::TwoLists::inside_or_beyond))]
     fn beyond(&self, i: u32) -> Option<u32>
-        ensures {
-            MatchOption result
-                (Inside (A.Content.strips (first_of self.now)) i)
-                (Beyond (A.Content.strips (first_of self.now)) i)
-        }
+        ensures { MatchOption result
+            (Inside (A.Content.strips (first_of self.now)) i)
+            (Beyond (A.Content.strips (first_of self.now)) i) }
     {
         i.checked_sub(self.first.count())
     }
@@ -94,14 +91,7 @@ impl<A: Content, B: Content> Pair<A, B> {
     // Takes k strips of joined parts, which stay joined.
     fn take_joined(&mut self, k: u32) -> bool
         requires { is_some (pair_joint A.Content B.Content self.old) ≡ true }
-        ensures left {
-            TakenOff k result
-                (pair_left A.Content B.Content self.old)
-                (pair_left A.Content B.Content self.new)
-        }
-        ensures reach {
-            pair_reach A.Content B.Content self.new ≡ pair_reach A.Content B.Content self.old
-        }
+        ensures taken { Takes (pair_content A.Content B.Content) k result self.old self.new }
         ensures parts { PartsLeft A.Content B.Content k result self.old self.new }
     {
         self.advance(k)
@@ -109,12 +99,10 @@ impl<A: Content, B: Content> Pair<A, B> {
 
     // Takes k strips of both parts, under whatever joint.
     fn advance(&mut self, k: u32) -> bool
-        ensures left {
-            (by : Joint) →
+        ensures left { (by : Joint) →
             TakenOff k result
-                (both_left A.Content B.Content by self.old)
-                (both_left A.Content B.Content by self.new)
-        }
+            (both_left A.Content B.Content by self.old)
+            (both_left A.Content B.Content by self.new) }
         ensures fewer_first { first_count A.Content self.new ≤ first_count A.Content self.old }
         ensures fewer_second { second_count B.Content self.new ≤ second_count B.Content self.old }
         ensures joint { joint_of self.new ≡ joint_of self.old }
@@ -129,21 +117,19 @@ impl<A: Content, B: Content> Pair<A, B> {
 
 impl<A: Content, B: Content> Content for Pair<A, B> {
     ghost use Rattle.layers.specs.JoinedParts.{Lawful-pair_left};
-    ghost use Rattle.layers.specs.Pairs.{PartsLeft, pair_left, pair_reach};
-    ghost use Rattle.layers.specs.Takes.{TakenOff};
+    ghost use Rattle.layers.specs.Pairs.{PartsLeft, pair_content, pair_left, pair_reach};
+    ghost use Rattle.layers.specs.Takes.{Takes};
 
     ghost strips = { pair_left A.Content B.Content };
 
     ghost reach = { pair_reach A.Content B.Content };
 
-    ghost lawful = {
-        Lawful-pair_left A.Content.own B.Content.own A.Content.lawful B.Content.lawful
-    };
+    ghost lawful = { Lawful-pair_left A.Content.own B.Content.own A.lawful B.lawful };
 
     fn reach(&self) -> u32 {
         let first = self.first.reach();
         self.joint()
-            .map_or(first, |_| first.max(self.second.reach()).max(4_095))
+            .map_or(first, |_| first.max(self.second.reach()).max(MAX_GAP))
     }
 
     // Each part is asked once, so a pile of pairs is counted in one pass.
@@ -163,14 +149,7 @@ impl<A: Content, B: Content> Content for Pair<A, B> {
     }
 
     fn take(&mut self, k: u32) -> bool
-        ensures left {
-            TakenOff k result
-                (pair_left A.Content B.Content self.old)
-                (pair_left A.Content B.Content self.new)
-        }
-        ensures reach {
-            pair_reach A.Content B.Content self.new ≡ pair_reach A.Content B.Content self.old
-        }
+        ensures taken { Takes (pair_content A.Content B.Content) k result self.old self.new }
         ensures parts { PartsLeft A.Content B.Content k result self.old self.new }
     {
         if self.joint().is_some() {
