@@ -1,8 +1,7 @@
 -- How many strips joined parts have, and what a join answers.
-use Rattle.std.specs.Prelude.{◌≡◌, ℕ, ◌+◌, Bool, true, false, List, length, is_some, Some, None, Ok, Err, Option, Result, MatchResult, if◌then◌else◌, refl}
+use Rattle.std.specs.Prelude.{◌≡◌, ℕ, ◌+◌, Bool, true, false, List, length, Some, None, Ok, Err, Option, Result, MatchResult, if◌then◌else◌, refl}
 use Rattle.std.proofs.Common.{ap, subst, ◌∙◌}
 use Rattle.std.proofs.lemmas.List.{length-append}
-use Rattle.std.proofs.lemmas.Bool.{false≢true}
 use Rattle.content.specs.declared.contents.Content.{Ghosts as Meaning}
 use Rattle.content.specs.declared.strips.Strip.{Strip}
 use Rattle.layers.specs.declared.faults.LayerFault.{LayerFault}
@@ -20,10 +19,6 @@ module _ (xs ys : List Strip) (begun : Bool) where
   pub linked_length : (j : Option Joint) → length (linked j xs begun ys) ≡ linked_count j (length xs) (length ys)
   linked_length None = refl
   linked_length (Some by) = length-append xs (by_place (joined by) begun ys) ∙ ap (λ n. length xs + n) (length-by_place (joined by) begun ys)
-
-pub counts_both : (j : Option Joint) (m n : ℕ) → is_some j ≡ true → linked_count j m n ≡ m + n
-counts_both None m n some = absurd (false≢true some)
-counts_both (Some by) m n some = refl
 
 pub word_of_number : (word : BreakWord) → word_of (word_number word) ≡ Some word
 word_of_number Auto = refl

@@ -1,7 +1,7 @@
 -- Parts that are joined keep the laws.
-use Rattle.std.specs.Prelude.{◌≡◌, ℕ, ◌+◌, ◌≤◌, max, Bool, true, false, List, ◌++◌, length, Some, None, Option, if◌then◌else◌, nat_le, refl}
+use Rattle.std.specs.Prelude.{◌≡◌, ℕ, ◌+◌, ◌≤◌, max, Bool, true, false, List, ◌++◌, length, Some, None, Option, if◌then◌else◌, refl}
 use Rattle.std.proofs.Common.{arith}
-use Rattle.std.proofs.lemmas.Bool.{and_parts, leb-true}
+use Rattle.std.proofs.lemmas.Bool.Decides.{nat_tests}
 use Rattle.content.specs.declared.contents.Content.{Ghosts as Meaning}
 use Rattle.content.specs.declared.strips.Strip.{Strip}
 use Rattle.content.specs.Laws.{Within, Lawful}
@@ -35,9 +35,8 @@ module _ (xs ys : List Strip) (begun : Bool) (m n : ℕ) (first : Lawful xs m) (
 
   both_lawful : (by : Joint) → joint_fits (length xs) (length ys) by ≡ true → Lawful (xs ++ by_place (joined by) begun ys) high
   both_lawful by fits =
-      let parts = and_parts (nat_le by.gap 4095) (nat_le (length xs + length ys) 1000000) fits in
-      let gap = leb-true by.gap 4095 parts.0 in
-      let few = leb-true (length xs + length ys) 1000000 parts.1 in
+      let gap : by.gap ≤ 4095 = grind (arith, nat_tests) in
+      let few : length xs + length ys ≤ 1000000 = grind (arith, nat_tests) in
       let bounded : high ≤ 200000 = omega (arith, first.bounded, second.bounded) in
       let led = joined_lawful by n high (omega arith) (omega arith) in
       Lawful-append xs (by_place (joined by) begun ys) high (omega (arith, few, length-by_place (joined by) begun ys)) (Lawful_wider m high xs (omega arith) bounded first) (Lawful-by_place (joined by) n high led begun ys bounded second)
