@@ -1,7 +1,6 @@
 //! Layers: each holds any content and is one.
 #![tactic(auto)]
 
-mod boxes;
 mod faults;
 mod held;
 mod joints;
@@ -10,9 +9,8 @@ mod layer;
 mod padding;
 mod pairs;
 
-pub use boxes::PaddingBox;
 pub use faults::LayerFault;
 pub use joints::{BreakWord, UnknownWord};
 pub use keeps::Keep;
-pub use padding::{DecorationBreak, Padding};
+pub use padding::{DecorationBreak, Padding, PaddingBox};
 pub use pairs::Pair;

@@ -1,11 +1,14 @@
-// The padding of a box.
-ghost use Rattle.std.specs.Prelude.{◌≡◌, ◌+◌, ◌≤◌, if◌then◌else◌};
-ghost use Rattle.layers.specs.Boxes.{padded, padded_reach, padding_fits, padding_over};
+// A box: padding round a content.
+ghost use Rattle.std.specs.Prelude.{◌≡◌, ◌+◌, ◌≤◌, false, if◌then◌else◌};
+ghost use Rattle.layers.specs.Boxes.{PaddedBy, bare_padding, box_left, box_reach, padded, padded_reach, padding_fits, padding_of, padding_over, set_checked};
+ghost use Rattle.layers.specs.Layers.{content_of, is_begun};
 ghost use Rattle.layers.specs.PaddedStrips.{padded_lawful, padding_bounded};
+ghost use Rattle.layers.specs.Settled.{Settled};
 
+use crate::faults::LayerFault;
 use crate::held::Placed;
-use crate::layer::Effect;
-use content::Strip;
+use crate::layer::{Effect, Layer};
+use content::{Content, Strip};
 
 /// What becomes of padding where a page ends inside its box.
 #[derive(Clone, Copy, Default, PartialEq, Eq, Debug)]
@@ -27,7 +30,7 @@ pub struct Padding {
 
 impl Padding {
     // Whether a box may have it, over a content of this reach.
-    pub(crate) fn fits(self, reach: u32) -> bool
+    fn fits(self, reach: u32) -> bool
         ensures { result ≡ padding_fits reach self }
     {
         let sum = reach.saturating_add(self.top).saturating_add(self.bottom);
@@ -79,4 +82,45 @@ fn share(gains: bool, padding: u32) -> u32
     ensures low { result ≤ padding }
 {
     if gains { padding } else { 0 }
+}
+
+/// Pads its content above and below.
+pub type PaddingBox<C> = Layer<Padding, C>;
+
+impl<C: Content> Layer<Padding, C> {
+    /// A box without padding.
+    #[tactic(auto, using(crate::proofs::PaddedStrips::bare_box))]
+    pub fn new(content: C) -> PaddingBox<C>
+        ensures content { content_of result ≡ content }
+        ensures begun { is_begun result ≡ false }
+        ensures padding { padding_of result ≡ bare_padding }
+        ensures left { box_left C.Content result ≡ C.strips content }
+        ensures reach { box_reach C.Content result ≡ C.reach content }
+    {
+        Layer::around(Padding::default(), content)
+    }
+
+    /// Sets the padding, or leaves the box as it was.
+    pub fn set(&mut self, padding: Padding) -> Result<(), LayerFault>
+        ensures { Settled self.old self.new
+            (set_checked C.Content self.old padding)
+            (λ _. PaddedBy C.Content padding self.old self.new)
+            result }
+    {
+        self.check(padding)?;
+        self.effect = padding;
+        Ok(())
+    }
+
+    fn check(&self, padding: Padding) -> Result<(), LayerFault>
+        ensures { result ≡ set_checked C.Content self.now padding }
+    {
+        if self.held.begun() {
+            return Err(LayerFault::Begun);
+        }
+        if !padding.fits(self.held.reach()) {
+            return Err(LayerFault::BoxLimit);
+        }
+        Ok(())
+    }
 }
