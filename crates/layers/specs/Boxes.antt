@@ -46,7 +46,7 @@ padding_over reach by = if padding_fits reach by then by else bare_padding
 abbrev pub padded_reach : ℕ → Padding → ℕ
 padded_reach reach by = reach + by.top + by.bottom
 
--- A box.
+-- The alias of src/, which antt has no name for.
 abbrev pub PaddingBox : Type 0 → Type 0
 PaddingBox C = Layer Padding C
 

@@ -29,7 +29,7 @@ kept first last s = record {
   rank = if first then s.rank else kept_rank s.rank;
 }
 
--- A keep.
+-- The alias of src/, which antt has no name for.
 abbrev pub Keep : Type 0 → Type 0
 Keep C = Layer Keeping C
 

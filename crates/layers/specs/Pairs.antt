@@ -119,6 +119,8 @@ module _ {A B : Type 0} where
       pub first_kept : after.first ≡ before.first
       pub second_kept : after.second ≡ before.second
       pub joint : joint_of after ≡ Some by
+      -- which is the joint that it means
+      pub within : pair_joint after ≡ Some by
       pub left : pair_left after ≡ a.strips (first_of before) ++ by_place (joined by) false (b.strips (second_of before))
       pub reaches : pair_reach after ≡ max 4095 (max (a.reach (first_of before)) (b.reach (second_of before)))
 

@@ -1,8 +1,8 @@
 // The content in a layer, and what a take through the layer leaves of it.
-ghost use Rattle.std.specs.Prelude.{◌≡◌, ◌≤◌, false, length, option_map};
+ghost use Rattle.std.specs.Prelude.{◌≡◌, false, length, option_map};
 ghost use Rattle.std.specs.List.{slice_get};
 ghost use Rattle.content.specs.Laws.{Within};
-ghost use Rattle.layers.specs.Places.{Change, by_place, first_at, last_at};
+ghost use Rattle.layers.specs.Places.{Change, first_at, last_at};
 
 use content::{Content, Strip};
 

@@ -1,6 +1,5 @@
 // A pair: one content after another.
-ghost use Rattle.std.specs.Prelude.{◌≡◌, ◌+◌, ◌≤◌, true, false, length, is_some, None, MatchOption};
-ghost use Rattle.std.specs.List.{slice_get};
+ghost use Rattle.std.specs.Prelude.{◌≡◌, ◌≤◌, false, None, MatchOption};
 ghost use Rattle.layers.specs.declared.joints.Joint.{Joint};
 ghost use Rattle.layers.specs.Settled.{Settled};
 ghost use Rattle.layers.specs.TwoLists.{Beyond, Inside};
@@ -88,15 +87,6 @@ impl<A: Content, B: Content> Pair<A, B> {
         i.checked_sub(self.first.count())
     }
 
-    // Takes k strips of joined parts, which stay joined.
-    fn take_joined(&mut self, k: u32) -> bool
-        requires { is_some (pair_joint A.Content B.Content self.old) ≡ true }
-        ensures taken { Takes (pair_content A.Content B.Content) k result self.old self.new }
-        ensures parts { PartsLeft A.Content B.Content k result self.old self.new }
-    {
-        self.advance(k)
-    }
-
     // Takes k strips of both parts, under whatever joint.
     fn advance(&mut self, k: u32) -> bool
         ensures left { (by : Joint) →
@@ -153,7 +143,7 @@ impl<A: Content, B: Content> Content for Pair<A, B> {
         ensures parts { PartsLeft A.Content B.Content k result self.old self.new }
     {
         if self.joint().is_some() {
-            return self.take_joined(k);
+            return self.advance(k);
         }
         // Parts past the limits stay apart from here on, also once fewer strips are left.
         self.joint = None;
