@@ -33,7 +33,7 @@ def functions():
 
 
 def own_variants():
-    print("  enums:", ", ".join(text for _, text in places(r"enum \w+")))
+    print("  enums:", ", ".join(text for _, text in places(r"^(?:pub )?enum \w+")))
     for what, pattern in [
         ("a flag in a struct", r"^ +(?:pub(?:\(crate\))? )?\w+: bool,$"),
         ("a number for a kind or a refusal", r"fn (?:number|from_number|refusal|code|kind)\(|\b(?:word|kind|code|number|layer): u(?:8|32)\b(?=[,)])"),
