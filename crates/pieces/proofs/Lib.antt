@@ -1,1 +1,2 @@
+pub mod EachPart
 pub mod FairRows

@@ -1,9 +1,9 @@
 pub mod Faults
 pub mod Ranges
 pub mod Strips
+pub mod Pieces
 pub mod Paragraphs
 pub mod Pictures
 pub mod Rows
 pub mod Groups
-pub mod EachPart
 pub mod PieceLaws

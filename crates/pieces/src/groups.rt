@@ -1,17 +1,95 @@
-// A group of rows, each a strip.
-ghost use Rattle.std.specs.Prelude.{◌≡◌, vec_len};
-ghost use Rattle.pieces.specs.Rows.{RowsFair};
+// A group of rows.
+ghost use Rattle.std.specs.Prelude.{◌≡◌, ◌<◌, ◌≤◌, length, vec_len, vec_capacity, All, MatchResult};
+ghost use Rattle.pieces.specs.declared.faults.PieceFault.TheVariants.{Memory};
+ghost use Rattle.pieces.specs.Rows.{RowFair};
 
-use crate::parts::Parts;
-use crate::rows::Row;
+use crate::faults::PieceFault;
+use crate::piece::{Piece, Source};
+use crate::rows::{Row, check_rows};
+use content::Strip;
+use std::alloc::Global;
 
-mod fills;
-
+/// The rows of a group.
 #[derive(Drop)]
-pub struct RowGroup {
+pub struct Rows {
     node: u32,
     rows: Vec<Row>,
-    parts: Parts,
-    ghost whole: { parts.count ≡ vec_len rows },
-    ghost fair: { RowsFair rows.items },
+    ghost few: { vec_len rows ≤ 4096 },
+    ghost fair: { All RowFair rows.items },
+}
+
+/// A strip for each row.
+pub type RowGroup = Piece<Rows>;
+
+impl Piece<Rows> {
+    ghost use Rattle.std.specs.Prelude.{[], OnOk, IsOk};
+    ghost use Rattle.pieces.specs.Groups.{Filled, group_left, node_of, room_of};
+    ghost use Rattle.pieces.specs.Rows.{RowsGood, rows_checked};
+
+    /// A group with no rows yet.
+    pub fn new(heap: Global, node: u32) -> RowGroup
+        ensures left { group_left result ≡ [] }
+        ensures node { node_of result ≡ node }
+    {
+        Piece::from(Rows {
+            node,
+            rows: Vec::new(heap),
+        })
+    }
+
+    /// Begins the group anew with these rows, or leaves it as it was.
+    pub fn fill(&mut self, rows: &[Row]) -> Result<(), PieceFault>
+        ensures filled { Filled self.old self.new rows.now (rows_checked (node_of self.old) rows.now) result }
+        ensures good { OnOk result (RowsGood rows.now) }
+        ensures succeeds { RowsGood rows.now → length rows.now ≤ room_of self.old → IsOk result }
+        ensures capacity { room_of self.old ≤ room_of self.new }
+    {
+        check_rows(self.source.node, rows)?;
+        hold(&mut self.source.rows, rows, self.source.node)?;
+        self.taken = 0;
+        Ok(())
+    }
+}
+
+impl Rows {
+    ghost use Rattle.std.specs.Prelude.{slice_get, vec_items};
+
+    fn row(&self, i: u32) -> Option<Row>
+        ensures { result ≡ slice_get (vec_items self.now.rows) i }
+    {
+        self.rows.get(i as usize).copied()
+    }
+}
+
+#[tactic(auto, using(crate::proofs::EachPart::row_parts))]
+impl Source for Rows {
+    ghost use Rattle.pieces.specs.Groups.{rows_strips};
+    ghost use Rattle.pieces.specs.PieceLaws.{Lawful-rows_strips};
+
+    ghost strips = { rows_strips };
+
+    ghost lawful = { Lawful-rows_strips };
+
+    fn count(&self) -> u32 {
+        self.rows.len() as u32
+    }
+
+    fn strip(&self, i: u32) -> Option<Strip> {
+        self.row(i).map(|row| row.strip(self.node, i))
+    }
+}
+
+// Puts rows in the place of those held. Where there is neither room nor memory for them it keeps what it held.
+fn hold(held: &mut Vec<Row>, rows: &[Row], node: u32) -> Result<(), PieceFault>
+    ensures held { MatchResult result
+        (λ _. held.new.items ≡ rows.now)
+        (λ e. (e ≡ Memory node) × (vec_capacity held.old < length rows.now)
+        × (held.new.items ≡ held.old.items)) }
+    ensures capacity { vec_capacity held.old ≤ vec_capacity held.new }
+{
+    let more = rows.len().saturating_sub(held.len());
+    held.reserve(more).map_err(|_| PieceFault::Memory { node })?;
+    held.clear();
+    held.extend_from_slice(rows).unwrap();
+    Ok(())
 }
