@@ -36,7 +36,7 @@ fn paragraphs(rt: HostRuntime) {
             }
             Err(fault) => {
                 assert_eq!(rt; fault, PieceFault::Field { node: 7, field });
-                assert_eq!(rt; fault.refusal(), refused(9, 7, u64::from(field)));
+                assert_eq!(rt; Refusal::from(fault), refused(9, 7, u64::from(field)));
             }
         }
     }
@@ -68,7 +68,7 @@ fn pictures(rt: HostRuntime) {
             }
             Err(fault) => {
                 assert!(rt; !good);
-                assert_eq!(rt; fault.refusal(), refused(9, 3, 1));
+                assert_eq!(rt; Refusal::from(fault), refused(9, 3, 1));
             }
         }
     }
@@ -92,7 +92,7 @@ fn row_counts(rt: HostRuntime) -> Result<(), Fail> {
             }
             Err(fault) => {
                 assert!(rt; !good);
-                assert_eq!(rt; fault.refusal(), refused(9, 5, 1));
+                assert_eq!(rt; Refusal::from(fault), refused(9, 5, 1));
                 assert_eq!(rt; group.count(), before);
             }
         }
@@ -136,7 +136,7 @@ fn row_numbers(rt: HostRuntime) -> Result<(), Fail> {
             }
             Err(found) => {
                 assert_eq!(rt; fault, Some(found));
-                assert_eq!(rt; found.refusal(), refused(9, 5, 1));
+                assert_eq!(rt; Refusal::from(found), refused(9, 5, 1));
                 assert_eq!(rt; group.count(), 2);
             }
         }
