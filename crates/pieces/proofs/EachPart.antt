@@ -1,14 +1,14 @@
 -- Reading the strips of a piece.
-use Rattle.std.proofs.Common.{◌≡◌, ℕ, List, length, if◌then◌else◌, Some, None, nat_lt, refl, ap, ◌∙◌, inl, inr, arith}
+use Rattle.std.proofs.Common.{◌≡◌, ℕ, List, length, if◌then◌else◌, Some, None, nat_lt, arith}
 use Rattle.std.specs.List.{slice_get}
 use Rattle.std.specs.Option.{option_map}
-use Rattle.std.proofs.lemmas.Option.{slice_get-get_or, slice_get_past}
+use Rattle.std.proofs.lemmas.Option.{gets}
 use Rattle.std.proofs.lemmas.List.FromFn.{length-map-range_with_len, get_or-map-range_with_len}
-use Rattle.std.proofs.lemmas.Bool.{cases_lt, lt-ltb, le-ltb}
+use Rattle.std.proofs.lemmas.Bool.Decides.{nat_tests}
 use Rattle.content.specs.declared.strips.Strip.{Strip}
 use Rattle.content.specs.Strips.{blank}
 use Rattle.pieces.specs.declared.rows.Row.{Row}
-use Rattle.pieces.specs.Rows.{no_row, row_strip, row_strips, strip_of}
+use Rattle.pieces.specs.Rows.{row_strip, row_strips, strip_of}
 use Rattle.pieces.specs.Strips.{each_part}
 
 module _ (f : ℕ → Strip) (n : ℕ) where
@@ -16,17 +16,15 @@ module _ (f : ℕ → Strip) (n : ℕ) where
   length-each_part = length-map-range_with_len f 0 n
 
   pub slice_get-each_part : (i : ℕ) → slice_get (each_part f n) i ≡ (if nat_lt i n then Some (f i) else None)
-  slice_get-each_part i = elim (cases_lt i n) [
-    | inl h ↦ rw (lt-ltb i n h) (slice_get-get_or (each_part f n) i blank (omega (arith, length-each_part)) ∙ ap (λ s. Some s) (get_or-map-range_with_len f 0 n i i blank h (omega arith)))
-    | inr h ↦ rw (le-ltb i n h) (slice_get_past (each_part f n) i (omega (arith, length-each_part)))
-  ]
+  slice_get-each_part i =
+      let long = length-each_part in
+      grind (arith, nat_tests, gets, get_or-map-range_with_len f 0 n i i blank)
 
 pub ruleset parts = (length-each_part, slice_get-each_part)
 
 pub slice_get-row_strips : (block : ℕ) (rows : List Row) (i : ℕ) → slice_get (row_strips block rows) i ≡ option_map (strip_of block i) (slice_get rows i)
-slice_get-row_strips block rows i = elim (cases_lt i (length rows)) [
-  | inl h ↦ rw (slice_get-get_or rows i no_row h) (slice_get-each_part (row_strip block rows) (length rows) i ∙ rw (lt-ltb i (length rows) h) refl)
-  | inr h ↦ rw (slice_get_past rows i h) (slice_get-each_part (row_strip block rows) (length rows) i ∙ rw (le-ltb i (length rows) h) refl)
-]
+slice_get-row_strips block rows i =
+    let read = slice_get-each_part (row_strip block rows) (length rows) i in
+    grind (arith, nat_tests, gets)
 
 pub ruleset row_parts = (length-each_part, slice_get-row_strips)

@@ -9,6 +9,7 @@ use Rattle.pieces.specs.Pieces.{piece_left}
 use Rattle.pieces.specs.Ranges.{Checked}
 use Rattle.pieces.specs.Rows.{row_strips}
 
+-- A `RowGroup`: antt has no name for an alias.
 abbrev pub RowGroup : Type 0
 RowGroup = Piece Rows
 
@@ -30,11 +31,21 @@ abbrev pub group_left : RowGroup → List Strip
 group_left = piece_left rows_strips
 
 abbrev pub AsItWas : RowGroup → RowGroup → Type 0
-AsItWas before after = (node_of after ≡ node_of before) × (rows_of after ≡ rows_of before) × (group_left after ≡ group_left before)
+AsItWas before after =
+    (node_of after ≡ node_of before)
+    × (rows_of after ≡ rows_of before)
+    × (group_left after ≡ group_left before)
 
--- Good rows fill the group, or there was neither room nor memory for them. Bad rows are refused by their checks.
+-- Good rows fill the group, or there was neither room nor memory for them.
+-- Bad rows are refused by their checks.
 abbrev pub Filled : RowGroup → RowGroup → List Row → Checked → Checked → Type 0
-Filled before after rows (Ok _) (Ok _) = (group_left after ≡ row_strips (node_of before) rows) × (node_of after ≡ node_of before) × (rows_of after ≡ rows)
-Filled before after rows (Ok _) (Err e) = (e ≡ Memory (node_of before)) × (room_of before < length rows) × AsItWas before after
+Filled before after rows (Ok _) (Ok _) =
+    (group_left after ≡ row_strips (node_of before) rows)
+    × (node_of after ≡ node_of before)
+    × (rows_of after ≡ rows)
+Filled before after rows (Ok _) (Err e) =
+    (e ≡ Memory (node_of before))
+    × (room_of before < length rows)
+    × AsItWas before after
 Filled before after rows (Err fault) (Ok _) = ⊥
 Filled before after rows (Err fault) (Err e) = (e ≡ fault) × AsItWas before after

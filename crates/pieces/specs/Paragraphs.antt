@@ -11,16 +11,22 @@ use Rattle.pieces.specs.Pieces.{piece_left}
 use Rattle.pieces.specs.Ranges.{Checked, in_range}
 use Rattle.pieces.specs.Strips.{bare, each_part}
 
--- Line i may begin a page where as many lines as the orphans stand before it, and as many as the widows from it on.
+-- Line i may begin a page where as many lines as the orphans stand before it, and as many as the
+-- widows from it on.
 -- The first line may too: nothing of the paragraph is left behind.
 abbrev pub line_rank : ℕ → ℕ → ℕ → ℕ → Rank
-line_rank lines orphans widows i = if i == 0 || (nat_le orphans i && nat_le widows (lines - i)) then Free else AgainstOrphansOrWidows
+line_rank lines orphans widows i =
+    if i == 0 || (nat_le orphans i && nat_le widows (lines - i))
+    then Free
+    else AgainstOrphansOrWidows
 
 abbrev pub line_strip : ℕ → ℕ → ℕ → ℕ → ℕ → ℕ → Strip
-line_strip block tall lines orphans widows i = bare block i tall 0 (line_rank lines orphans widows i)
+line_strip block tall lines orphans widows i =
+    bare block i tall 0 (line_rank lines orphans widows i)
 
 abbrev pub paragraph_strips : ℕ → ℕ → ℕ → ℕ → ℕ → List Strip
-paragraph_strips block tall lines orphans widows = each_part (line_strip block tall lines orphans widows) lines
+paragraph_strips block tall lines orphans widows =
+    each_part (line_strip block tall lines orphans widows) lines
 
 abbrev pub paragraph_checked : ℕ → ℕ → ℕ → ℕ → ℕ → Checked
 paragraph_checked block tall lines orphans widows =

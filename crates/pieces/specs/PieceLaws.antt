@@ -1,9 +1,8 @@
 -- What each piece is cut from keeps the laws of a content.
-use Rattle.std.specs.Prelude.{◌≡◌, ℕ, ◌+◌, ◌<◌, ◌≤◌, List, length, slice_index_or, vec_items, All, refl}
-use Rattle.std.specs.List.{range_with_len}
+use Rattle.std.specs.Prelude.{◌≡◌, ℕ, ◌<◌, ◌≤◌, List, length, slice_index_or, vec_items, All, refl}
 use Rattle.std.proofs.Common.{arith}
-use Rattle.std.proofs.lemmas.List.Elements.{recursion_from_All, All-map}
-use Rattle.std.proofs.lemmas.List.FromFn.{length-range_with_len, length-map-range_with_len, get_or-range_with_len}
+use Rattle.std.proofs.lemmas.List.Elements.{recursion_from_All}
+use Rattle.std.proofs.lemmas.List.FromFn.{length-map-range_with_len, get_or-map-range_with_len}
 use Rattle.content.specs.declared.ranks.Rank.{Rank}
 use Rattle.content.specs.declared.ranks.Rank.TheVariants.{Free}
 use Rattle.content.specs.declared.strips.Strip.{Strip}
@@ -38,7 +37,7 @@ module _ (block : ℕ) (tall tags : ℕ → ℕ) (grade : ℕ → Rank) (n : ℕ
 
   Lawful-each_part : n ≤ 4096 → ((i : ℕ) → i < n → (1 ≤ tall i) × (tall i ≤ 65535) × (tags i ≤ 65535)) → Lawful (each_part part n) 65535
   Lawful-each_part short fair =
-      let long = length-range_with_len 0 n in
+      let long = length-map-range_with_len part 0 n in
       let untailed : (i : ℕ) → i < n → Untailed (part i) = λ i h. let by = fair i h in (
         record {
           some_height = by.0;
@@ -50,9 +49,9 @@ module _ (block : ℕ) (tall tags : ℕ → ℕ) (grade : ℕ → Rank) (n : ℕ
         },
         refl,
       ) in
-      Lawful-untailed (each_part part n) (omega (arith, length-map-range_with_len part 0 n)) (
-      All-map Untailed part (range_with_len 0 n) (λ k d h. let inside : k < n = omega arith in
-      rw (get_or-range_with_len 0 n k d inside) (untailed (0 + k) (omega arith))))
+      Lawful-untailed (each_part part n) (omega arith) (
+      λ k d h. let inside : k < n = omega arith in
+      rw (get_or-map-range_with_len part 0 n k k d inside (omega arith)) (untailed k inside))
 
 pub Lawful-lines_strips : (p : Lines) → Lawful (lines_strips p) 65535
 Lawful-lines_strips p = Lawful-each_part p.node (λ _. p.height) (λ _. 0) (line_rank p.count p.orphans p.widows) p.count p.few (λ i h. (p.tall, p.low, omega arith))

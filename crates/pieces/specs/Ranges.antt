@@ -1,4 +1,5 @@
--- What a check answers. Checks in their order go by `result_and`: the first that fails is the answer.
+-- What a check answers.
+-- Several in their order are joined by `result_and`: the first that fails is the answer.
 use Rattle.std.specs.Prelude.{ℕ, ◌&&◌, Ok, Err, Result, if◌then◌else◌, nat_le}
 use Rattle.pieces.specs.declared.faults.PieceFault.{PieceFault}
 

@@ -21,15 +21,19 @@ RowsGood rows = (1 ≤ length rows) × (length rows ≤ 4096) × All RowFair row
 
 -- The height is checked before the bales.
 abbrev pub row_checked : ℕ → ℕ → Row → Checked
-row_checked block i row = result_and (in_range 1 65535 row.height (RowHeight block i)) (in_range 0 10000 row.bales (RowBales block i))
+row_checked block i row =
+    result_and (in_range 1 65535 row.height (RowHeight block i))
+    (in_range 0 10000 row.bales (RowBales block i))
 
--- Rows in turn, the first of them row i. That it is Ok where all rows are fair, and only there, is shown where it is computed.
+-- Rows in turn, the first of them row i. That it is Ok where all rows are fair, and only there,
+-- is shown where it is computed.
 abbrev pub each_row : ℕ → ℕ → List Row → Checked
 each_row block i [] = Ok tt
 each_row block i (row ∷ rows) = result_and (row_checked block i row) (each_row block (i + 1) rows)
 
 abbrev pub rows_checked : ℕ → List Row → Checked
-rows_checked block rows = result_and (in_range 1 4096 (length rows) (Field block 1)) (each_row block 0 rows)
+rows_checked block rows =
+    result_and (in_range 1 4096 (length rows) (Field block 1)) (each_row block 0 rows)
 
 abbrev pub strip_of : ℕ → ℕ → Row → Strip
 strip_of block i row = bare block i row.height row.bales Free

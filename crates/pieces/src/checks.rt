@@ -11,6 +11,7 @@ pub(crate) fn in_range(
     n: u32,
     fault: PieceFault,
 ) -> Result<(), PieceFault>
+    // of a range that was iterated, std says nothing
     requires { range_inclusive_exhausted range ≡ false }
     ensures { result ≡ in_range (range_inclusive_start range) (range_inclusive_end range) n fault }
 {

@@ -1,15 +1,14 @@
 // A group of rows.
-ghost use Rattle.std.specs.Prelude.{◌≡◌, ◌<◌, ◌≤◌, length, vec_len, vec_capacity, All, MatchResult};
-ghost use Rattle.pieces.specs.declared.faults.PieceFault.TheVariants.{Memory};
+ghost use Rattle.std.specs.Prelude.{◌≡◌, ◌<◌, ◌≤◌, length, vec_len, vec_capacity, All, OnErr, OnOk};
 ghost use Rattle.pieces.specs.Rows.{RowFair};
 
 use crate::faults::PieceFault;
 use crate::piece::{Piece, Source};
 use crate::rows::{Row, check_rows};
 use content::Strip;
-use std::alloc::Global;
+use std::alloc::{AllocError, Global};
 
-/// The rows of a group.
+/// The rows of a group, checked.
 #[derive(Drop)]
 pub struct Rows {
     node: u32,
@@ -22,7 +21,7 @@ pub struct Rows {
 pub type RowGroup = Piece<Rows>;
 
 impl Piece<Rows> {
-    ghost use Rattle.std.specs.Prelude.{[], OnOk, IsOk};
+    ghost use Rattle.std.specs.Prelude.{[], IsOk};
     ghost use Rattle.pieces.specs.Groups.{Filled, group_left, node_of, room_of};
     ghost use Rattle.pieces.specs.Rows.{RowsGood, rows_checked};
 
@@ -39,13 +38,15 @@ impl Piece<Rows> {
 
     /// Begins the group anew with these rows, or leaves it as it was.
     pub fn fill(&mut self, rows: &[Row]) -> Result<(), PieceFault>
-        ensures filled { Filled self.old self.new rows.now (rows_checked (node_of self.old) rows.now) result }
+        ensures filled { Filled self.old self.new rows.now
+            (rows_checked (node_of self.old) rows.now) result }
         ensures good { OnOk result (RowsGood rows.now) }
         ensures succeeds { RowsGood rows.now → length rows.now ≤ room_of self.old → IsOk result }
         ensures capacity { room_of self.old ≤ room_of self.new }
     {
-        check_rows(self.source.node, rows)?;
-        hold(&mut self.source.rows, rows, self.source.node)?;
+        let node = self.source.node;
+        check_rows(node, rows)?;
+        hold(&mut self.source.rows, rows).map_err(|_| PieceFault::Memory { node })?;
         self.taken = 0;
         Ok(())
     }
@@ -79,17 +80,14 @@ impl Source for Rows {
     }
 }
 
-// Puts rows in the place of those held. Where there is neither room nor memory for them it keeps what it held.
-fn hold(held: &mut Vec<Row>, rows: &[Row], node: u32) -> Result<(), PieceFault>
-    ensures held { MatchResult result
-        (λ _. held.new.items ≡ rows.now)
-        (λ e. (e ≡ Memory node) × (vec_capacity held.old < length rows.now)
-        × (held.new.items ≡ held.old.items)) }
+// Puts rows in the place of those held, or keeps those where there is neither room nor memory for these.
+fn hold(held: &mut Vec<Row>, rows: &[Row]) -> Result<(), AllocError>
+    ensures ok { OnOk result (held.new.items ≡ rows.now) }
+    ensures err { OnErr result (vec_capacity held.old < length rows.now) }
+    ensures kept { OnErr result (held.new.items ≡ held.old.items) }
     ensures capacity { vec_capacity held.old ≤ vec_capacity held.new }
 {
-    let more = rows.len().saturating_sub(held.len());
-    held.reserve(more).map_err(|_| PieceFault::Memory { node })?;
+    held.reserve(rows.len().saturating_sub(held.len()))?;
     held.clear();
-    held.extend_from_slice(rows).unwrap();
-    Ok(())
+    held.extend_from_slice(rows)
 }

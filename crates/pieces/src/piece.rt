@@ -64,7 +64,9 @@ impl<S: Source> Content for Piece<S> {
     fn take(&mut self, k: u32) -> bool
         ensures done { result ≡ nat_le k (length (piece_left S.strips self.old)) }
         ensures rest { piece_left S.strips self.new
-            ≡ (if result then drop k (piece_left S.strips self.old) else piece_left S.strips self.old) }
+            ≡ (if result
+            then drop k (piece_left S.strips self.old)
+            else piece_left S.strips self.old) }
         ensures reach { piece_reach self.new ≡ piece_reach self.old }
         ensures source { source_of self.new ≡ source_of self.old }
     {
