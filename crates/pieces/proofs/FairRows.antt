@@ -24,7 +24,11 @@ IsOk-each_row block i (row ∷ rows) =
     )
 
 -- A loop over the rows goes on from row i where that passed, and ends there else.
-pub row_passed : (block : ℕ) (rows : List Row) (i : ℕ) (r : Checked) → i < length rows → r ≡ row_checked block i (get_or rows i no_row) → each_row block i (drop i rows) ≡ result_and r (each_row block (i + 1) (drop (i + 1) rows))
+pub row_passed :
+    (block : ℕ) (rows : List Row) (i : ℕ) (r : Checked)
+    → i < length rows
+    → r ≡ row_checked block i (get_or rows i no_row)
+    → each_row block i (drop i rows) ≡ result_and r (each_row block (i + 1) (drop (i + 1) rows))
 row_passed block rows i r h e = rw e (at_drop_more (each_row block i) rows i no_row h)
 
 pub ruleset fair_rows = (IsOk-each_row, row_passed)

@@ -35,7 +35,10 @@ module _ (block : ℕ) (tall tags : ℕ → ℕ) (grade : ℕ → Rank) (n : ℕ
   abbrev part : ℕ → Strip
   part i = bare block i (tall i) (tags i) (grade i)
 
-  Lawful-each_part : n ≤ 4096 → ((i : ℕ) → i < n → (1 ≤ tall i) × (tall i ≤ 65535) × (tags i ≤ 65535)) → Lawful (each_part part n) 65535
+  Lawful-each_part :
+      n ≤ 4096
+      → ((i : ℕ) → i < n → (1 ≤ tall i) × (tall i ≤ 65535) × (tags i ≤ 65535))
+      → Lawful (each_part part n) 65535
   Lawful-each_part short fair =
       let long = length-map-range_with_len part 0 n in
       let untailed : (i : ℕ) → i < n → Untailed (part i) = λ i h. let by = fair i h in (
@@ -54,12 +57,17 @@ module _ (block : ℕ) (tall tags : ℕ → ℕ) (grade : ℕ → Rank) (n : ℕ
       rw (get_or-map-range_with_len part 0 n k k d inside (omega arith)) (untailed k inside))
 
 pub Lawful-lines_strips : (p : Lines) → Lawful (lines_strips p) 65535
-Lawful-lines_strips p = Lawful-each_part p.node (λ _. p.height) (λ _. 0) (line_rank p.count p.orphans p.widows) p.count p.few (λ i h. (p.tall, p.low, omega arith))
+Lawful-lines_strips p =
+    let rank = line_rank p.count p.orphans p.widows in
+    Lawful-each_part p.node (λ _. p.height) (λ _. 0) rank p.count p.few (λ i h. (p.tall, p.low, omega arith))
 
 pub Lawful-image_strips : (p : Image) → Lawful (image_strips p) 65535
-Lawful-image_strips p = Lawful-each_part p.node (λ _. p.height) (λ _. 0) (λ _. Free) 1 (omega arith) (λ i h. (p.tall, p.low, omega arith))
+Lawful-image_strips p =
+    Lawful-each_part p.node (λ _. p.height) (λ _. 0) (λ _. Free) 1 (omega arith) (λ i h. (p.tall, p.low, omega arith))
 
 pub Lawful-rows_strips : (p : Rows) → Lawful (rows_strips p) 65535
 Lawful-rows_strips p =
     let rows = vec_items p.rows in
-    Lawful-each_part p.node (λ i. (slice_index_or rows i no_row).height) (λ i. (slice_index_or rows i no_row).bales) (λ _. Free) (length rows) (omega arith) (λ i h. let fair = p.fair i no_row h in (fair.0, fair.1, omega arith))
+    let row = λ (i : ℕ). slice_index_or rows i no_row in
+    Lawful-each_part p.node (λ i. (row i).height) (λ i. (row i).bales) (λ _. Free) (length rows) (omega arith) (
+    λ i h. let fair = p.fair i no_row h in (fair.0, fair.1, omega arith))

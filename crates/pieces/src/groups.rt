@@ -1,4 +1,3 @@
-// A group of rows.
 ghost use Rattle.std.specs.Prelude.{◌≡◌, ◌<◌, ◌≤◌, length, vec_len, vec_capacity, All, OnErr, OnOk};
 ghost use Rattle.pieces.specs.Rows.{RowFair};
 
@@ -17,7 +16,7 @@ pub struct Rows {
     ghost fair: { All RowFair rows.items },
 }
 
-/// A strip for each row.
+/// A group of rows: a strip for each.
 pub type RowGroup = Piece<Rows>;
 
 impl Piece<Rows> {

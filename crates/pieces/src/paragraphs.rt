@@ -1,4 +1,3 @@
-// A paragraph of even lines, with the orphans and widows that it asks for.
 ghost use Rattle.std.specs.Prelude.{◌≡◌, ◌≤◌};
 
 use crate::checks::in_range;
@@ -7,7 +6,7 @@ use crate::piece::{Piece, Source};
 use crate::strips::bare_strip;
 use content::{Rank, Strip};
 
-/// The lines of a paragraph, all of one height.
+/// The lines of a paragraph, all of one height, with the orphans and widows that it asks for.
 #[derive(Clone, Copy)]
 pub struct Lines {
     node: u32,
@@ -20,14 +19,14 @@ pub struct Lines {
     ghost few: { count ≤ 4096 },
 }
 
-/// A strip for each line.
+/// A paragraph: a strip for each line.
 pub type Paragraph = Piece<Lines>;
 
 impl Piece<Lines> {
     ghost use Rattle.content.specs.Answered.{Answered};
     ghost use Rattle.pieces.specs.Paragraphs.{paragraph_checked, paragraph_left, paragraph_strips};
 
-    /// Its fields are checked in their order, `line_height` as the first.
+    /// The numbers are checked in their order, `line_height` first.
     pub fn new(
         node: u32,
         line_height: u32,

@@ -1,4 +1,3 @@
-// A picture: one strip.
 ghost use Rattle.std.specs.Prelude.{◌≡◌, ◌≤◌};
 
 use crate::checks::in_range;
@@ -7,7 +6,7 @@ use crate::piece::{Piece, Source};
 use crate::strips::bare_strip;
 use content::{Rank, Strip};
 
-/// What a picture shows.
+/// What a picture shows: one strip, never to be cut.
 #[derive(Clone, Copy)]
 pub struct Image {
     node: u32,
@@ -16,7 +15,7 @@ pub struct Image {
     ghost low: { height ≤ 65535 },
 }
 
-/// One strip.
+/// A picture: one strip.
 pub type Picture = Piece<Image>;
 
 impl Piece<Image> {

@@ -1,4 +1,3 @@
-// What the three pieces share: strips in order, the first of them taken.
 ghost use Rattle.std.specs.Prelude.{◌≡◌, List, length};
 ghost use Rattle.std.specs.List.{slice_get};
 ghost use Rattle.content.specs.declared.strips.Strip.{Strip};

@@ -1,4 +1,3 @@
-// The rows of a group, and their checks.
 ghost use Rattle.std.specs.Prelude.{◌≡◌, ◌≤◌, ◌↔◌, length, All, IsOk};
 ghost use Rattle.pieces.specs.Rows.{RowFair, RowsGood, each_row, row_checked, rows_checked, strip_of};
 
