@@ -1,5 +1,5 @@
 -- A layer makes a change to the strips of its content.
-use Rattle.std.specs.Prelude.{◌≡◌, ℕ, Bool, List}
+use Rattle.std.specs.Prelude.{◌≡◌, ℕ, Bool, false, List}
 use Rattle.content.specs.declared.contents.Content.{Ghosts as Meaning}
 use Rattle.content.specs.declared.strips.Strip.{Strip}
 use Rattle.layers.specs.declared.layer.Effect.{Ghosts as Effect}
@@ -19,6 +19,11 @@ module _ {E C : Type 0} where
   -- What it does to the strips of its content.
   abbrev pub effect_of : Layer E C → E
   effect_of l = l.effect
+
+  -- A layer round this content, through which no strip was taken.
+  pub record IsAround (content : C) (l : Layer E C) : Type 0 where
+    pub held : content_of l ≡ content
+    pub whole : is_begun l ≡ false
 
   -- What a take of k that answered r leaves of a layer beside its list.
   pub record TakenBelow (m : Meaning C) (k : ℕ) (r : Bool) (old new : Layer E C) : Type 0 where

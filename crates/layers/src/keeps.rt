@@ -2,7 +2,7 @@
 ghost use Rattle.std.specs.Prelude.{◌≡◌, false};
 ghost use Rattle.layers.specs.Keeps.{keep_left, kept};
 ghost use Rattle.layers.specs.KeptStrips.{kept_lawful};
-ghost use Rattle.layers.specs.Layers.{content_of, is_begun};
+ghost use Rattle.layers.specs.Layers.{IsAround};
 ghost use Rattle.layers.specs.Places.{by_place};
 
 use crate::held::Placed;
@@ -10,7 +10,7 @@ use crate::layer::{Effect, Layer};
 use content::{Content, Rank, Strip};
 
 /// Grades the breaks between the strips of a layer as against an avoid.
-#[derive(Clone, Copy)]
+#[derive(Clone, Copy, Default, PartialEq, Eq, Debug)]
 pub struct Keeping;
 
 impl Effect for Keeping {
@@ -44,8 +44,7 @@ pub type Keep<C> = Layer<Keeping, C>;
 
 impl<C: Content> Layer<Keeping, C> {
     pub fn new(content: C) -> Keep<C>
-        ensures content { content_of result ≡ content }
-        ensures begun { is_begun result ≡ false }
+        ensures around { IsAround content result }
         ensures left { keep_left C.Content result ≡ by_place kept false (C.strips content) }
     {
         Layer::around(Keeping, content)

@@ -1,5 +1,5 @@
 // One layer round a content, whatever it does to the strips.
-ghost use Rattle.std.specs.Prelude.{◌≡◌, ℕ, ◌≤◌, false};
+ghost use Rattle.std.specs.Prelude.{◌≡◌, ℕ, ◌≤◌};
 ghost use Rattle.layers.specs.Places.{Change};
 ghost use Rattle.layers.specs.LawfulChange.{LawfulChange};
 
@@ -34,12 +34,11 @@ pub struct Layer<E, C> {
 }
 
 impl<E, C: Content> Layer<E, C> {
-    ghost use Rattle.layers.specs.Layers.{content_of, effect_of, is_begun};
+    ghost use Rattle.layers.specs.Layers.{IsAround, effect_of};
 
     // A layer through which no strip was taken.
     pub(crate) fn around(effect: E, content: C) -> Layer<E, C>
-        ensures content { content_of result ≡ content }
-        ensures begun { is_begun result ≡ false }
+        ensures around { IsAround content result }
         ensures effect { effect_of result ≡ effect }
     {
         Layer {

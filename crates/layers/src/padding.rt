@@ -1,7 +1,7 @@
 // A box: padding round a content.
-ghost use Rattle.std.specs.Prelude.{◌≡◌, ◌+◌, ◌≤◌, false, if◌then◌else◌};
+ghost use Rattle.std.specs.Prelude.{◌≡◌, ◌+◌, ◌≤◌, if◌then◌else◌};
 ghost use Rattle.layers.specs.Boxes.{PaddedBy, bare_padding, box_left, box_reach, padded, padded_reach, padding_fits, padding_of, padding_over, set_checked};
-ghost use Rattle.layers.specs.Layers.{content_of, is_begun};
+ghost use Rattle.layers.specs.Layers.{IsAround};
 ghost use Rattle.layers.specs.PaddedStrips.{padded_lawful, padding_bounded};
 ghost use Rattle.layers.specs.Settled.{Settled};
 
@@ -91,8 +91,7 @@ impl<C: Content> Layer<Padding, C> {
     /// A box without padding.
     #[tactic(auto, using(crate::proofs::PaddedStrips::bare_box))]
     pub fn new(content: C) -> PaddingBox<C>
-        ensures content { content_of result ≡ content }
-        ensures begun { is_begun result ≡ false }
+        ensures around { IsAround content result }
         ensures padding { padding_of result ≡ bare_padding }
         ensures left { box_left C.Content result ≡ C.strips content }
         ensures reach { box_reach C.Content result ≡ C.reach content }
