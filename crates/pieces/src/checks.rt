@@ -11,10 +11,11 @@ pub(crate) fn in_range(
     n: u32,
     fault: PieceFault,
 ) -> Result<(), PieceFault>
-    // of a range that was iterated, std says nothing
+    // A range that was iterated may hold less than its ends say.
     requires { range_inclusive_exhausted range ≡ false }
     ensures { result ≡ in_range (range_inclusive_start range) (range_inclusive_end range) n fault }
 {
+    // An `if` shows both answers; `then_some(()).ok_or(fault)` would say the same, and no plainer.
     if range.contains(&n) {
         Ok(())
     } else {

@@ -8,7 +8,7 @@ use content::Strip;
 use std::alloc::{AllocError, Global};
 
 /// The rows of a group, checked.
-#[derive(Drop)]
+#[derive(PartialEq, Eq, Debug, Drop)]
 pub struct Rows {
     node: u32,
     rows: Vec<Row>,

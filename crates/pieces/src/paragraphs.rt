@@ -7,7 +7,7 @@ use crate::strips::bare_strip;
 use content::{Rank, Strip};
 
 /// The lines of a paragraph, all of one height, with the orphans and widows that it asks for.
-#[derive(Clone, Copy)]
+#[derive(Clone, Copy, PartialEq, Eq, Debug)]
 pub struct Lines {
     node: u32,
     height: u32,

@@ -7,7 +7,7 @@ use crate::strips::bare_strip;
 use content::{Rank, Strip};
 
 /// What a picture shows: one strip, never to be cut.
-#[derive(Clone, Copy)]
+#[derive(Clone, Copy, PartialEq, Eq, Debug)]
 pub struct Image {
     node: u32,
     height: u32,

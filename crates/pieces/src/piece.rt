@@ -21,7 +21,7 @@ pub trait Source {
 }
 
 /// The strips of a source, less those that were taken off the front.
-#[derive(Clone, Copy, Drop)]
+#[derive(Clone, Copy, PartialEq, Eq, Debug, Drop)]
 pub struct Piece<S> {
     pub(crate) source: S,
     pub(crate) taken: u32,
