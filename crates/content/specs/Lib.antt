@@ -3,3 +3,4 @@ pub mod Strips
 pub mod Laws
 pub mod Answered
 pub mod Bounds
+pub mod Takes

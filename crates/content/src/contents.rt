@@ -26,7 +26,8 @@ pub trait Content {
     /// Drops the first k strips and says yes; where there are fewer it says no and keeps all.
     fn take(&mut self, k: u32) -> bool
         ensures done { result ≡ nat_le k (length (strips self.old)) }
-        ensures rest { strips self.new ≡ (if result then drop k (strips self.old) else strips self.old) }
+        ensures rest { strips self.new
+            ≡ (if result then drop k (strips self.old) else strips self.old) }
         ensures reach { reach self.new ≡ reach self.old };
 
     // what every content owes, of any make

@@ -15,6 +15,7 @@ pub fn bales_from<C: Content>(content: &C, from: u32, k: u32) -> u64
 fn add_up<C: Content>(content: &C, from: u32, k: u32) -> u64
     ensures { result ≡ bales_of (take k (drop from (C.strips content.now))) }
 {
+    // As a chain over `map_while` both its bound and its sum would be left to proofs by hand.
     let mut bales = 0;
     // No content has as many strips as would wrap.
     for i in from..from.saturating_add(k) {

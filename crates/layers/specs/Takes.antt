@@ -1,20 +1,10 @@
--- What a take of k that answered r leaves.
-use Rattle.std.specs.Prelude.{◌≡◌, ℕ, ◌≤◌, Bool, false, ◌&&◌, ◌||◌, List, length, drop, if◌then◌else◌, nat_le, nat_lt}
+-- What a take of k that answered r leaves of a layer.
+use Rattle.std.specs.Prelude.{◌≡◌, ℕ, ◌≤◌, Bool, false, ◌&&◌, ◌||◌, length, nat_lt}
 use Rattle.content.specs.declared.contents.Content.{Ghosts as Meaning}
-use Rattle.content.specs.declared.strips.Strip.{Strip}
+use Rattle.content.specs.Takes.{TakenOff, Takes}
 use Rattle.layers.specs.declared.held.Held.{Held}
 use Rattle.layers.specs.Held.{held_left}
 use Rattle.layers.specs.Places.{Change}
-
--- It found the strips xs and left xs'. The first k are gone, or all are left where there are fewer.
-pub record TakenOff (k : ℕ) (r : Bool) (xs xs' : List Strip) : Type 0 where
-  pub done : r ≡ nat_le k (length xs)
-  pub rest : xs' ≡ (if r then drop k xs else xs)
-
--- It was taken from a content.
-pub record Takes {X : Type 0} (m : Meaning X) (k : ℕ) (r : Bool) (old new : X) : Type 0 where
-  pub strips : TakenOff k r (m.strips old) (m.strips new)
-  pub reach : m.reach new ≡ m.reach old
 
 module _ {C : Type 0} (m : Meaning C) (k : ℕ) (r : Bool) (old new : Held C) where
   -- It was taken through a layer, which is begun once a strip was.

@@ -51,7 +51,7 @@ impl<E, C: Content> Layer<E, C> {
 impl<E: Effect, C: Content> Content for Layer<E, C> {
     ghost use Rattle.layers.specs.Layers.{TakenBelow, layer_content, layer_left, layer_reach};
     ghost use Rattle.layers.specs.LawfulLayers.{Lawful-layer_left};
-    ghost use Rattle.layers.specs.Takes.{Takes};
+    ghost use Rattle.content.specs.Takes.{Takes};
 
     ghost strips = { layer_left E.Effect C.Content };
 

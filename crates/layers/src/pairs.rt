@@ -20,7 +20,7 @@ pub struct Pair<A, B> {
 
 impl<A: Content, B: Content> Pair<A, B> {
     ghost use Rattle.layers.specs.Pairs.{JoinedBy, PartsLeft, both_left, first_count, first_of, join_checked, joint_of, joint_over, pair_begun, pair_content, pair_joint, pair_left, pair_reach, second_count, second_of};
-    ghost use Rattle.layers.specs.Takes.{TakenOff, Takes};
+    ghost use Rattle.content.specs.Takes.{TakenOff};
 
     /// The first part alone, until the parts are joined.
     pub fn new(first: A, second: B) -> Pair<A, B>
@@ -108,7 +108,7 @@ impl<A: Content, B: Content> Pair<A, B> {
 impl<A: Content, B: Content> Content for Pair<A, B> {
     ghost use Rattle.layers.specs.JoinedParts.{Lawful-pair_left};
     ghost use Rattle.layers.specs.Pairs.{PartsLeft, pair_content, pair_left, pair_reach};
-    ghost use Rattle.layers.specs.Takes.{Takes};
+    ghost use Rattle.content.specs.Takes.{Takes};
 
     ghost strips = { pair_left A.Content B.Content };
 

@@ -28,7 +28,9 @@ pub struct EvenLines {
 impl EvenLines {
     // None where a content may not have as many, or may not reach as far.
     pub(crate) fn new(lines: u32, reach: u32) -> Option<EvenLines>
-        ensures { MatchOption result ((lines ≤ 1000000) → (100 ≤ reach) → (reach ≤ 200000) → ⊥) (λ e. (e.left ≡ lines) × (e.reach ≡ reach)) }
+        ensures { MatchOption result
+            ((lines ≤ 1000000) → (100 ≤ reach) → (reach ≤ 200000) → ⊥)
+            (λ e. (e.left ≡ lines) × (e.reach ≡ reach)) }
     {
         // A closure under `then` would not know what was tested.
         if 1_000_000 < lines || !(100..=200_000).contains(&reach) {

@@ -5,7 +5,7 @@ use layers::{BreakWord, DecorationBreak, Keep, Padding, PaddingBox, Pair};
 use pieces::{Paragraph, Picture};
 use std::test::Fail;
 
-// Where the next page ends on a form of this height.
+// Where the next page ends on a form of this height. `sheets` keeps its own to itself.
 fn page_end<C: Content>(content: &C, form: u32) -> (u32, Rank, u32) {
     choose(content, 0, content.count(), form)
 }

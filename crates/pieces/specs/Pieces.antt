@@ -1,5 +1,6 @@
 -- What is left of a piece when strips were taken of it.
 use Rattle.std.specs.Prelude.{◌≡◌, ℕ, List, drop}
+use Rattle.content.specs.declared.contents.Content.{Ghosts as Meaning}
 use Rattle.content.specs.declared.strips.Strip.{Strip}
 use Rattle.content.specs.Laws.{Lawful}
 use Rattle.content.proofs.Lawful.{Lawful-drop}
@@ -17,6 +18,10 @@ module _ {S : Type 0} where
   module _ (strips : S → List Strip) where
     abbrev pub piece_left : Piece S → List Strip
     piece_left p = drop p.taken (strips p.source)
+
+    -- A piece as a content.
+    abbrev pub piece_content : Meaning (Piece S)
+    piece_content = record { strips = piece_left; reach = piece_reach }
 
     -- Nothing is taken yet.
     abbrev pub IsWhole : S → Piece S → Type 0

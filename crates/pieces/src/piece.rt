@@ -39,8 +39,8 @@ impl<S: Source> From<S> for Piece<S> {
 }
 
 impl<S: Source> Content for Piece<S> {
-    ghost use Rattle.std.specs.Prelude.{◌≡◌, length, drop, if◌then◌else◌, nat_le};
-    ghost use Rattle.pieces.specs.Pieces.{piece_left, piece_reach, source_of, Lawful-piece_left};
+    ghost use Rattle.content.specs.Takes.{Takes};
+    ghost use Rattle.pieces.specs.Pieces.{piece_content, piece_left, piece_reach, source_of, Lawful-piece_left};
 
     ghost strips = { piece_left S.strips };
 
@@ -61,12 +61,7 @@ impl<S: Source> Content for Piece<S> {
     }
 
     fn take(&mut self, k: u32) -> bool
-        ensures done { result ≡ nat_le k (length (piece_left S.strips self.old)) }
-        ensures rest { piece_left S.strips self.new
-            ≡ (if result
-            then drop k (piece_left S.strips self.old)
-            else piece_left S.strips self.old) }
-        ensures reach { piece_reach self.new ≡ piece_reach self.old }
+        ensures taken { Takes (piece_content S.strips) k result self.old self.new }
         ensures source { source_of self.new ≡ source_of self.old }
     {
         let enough = k <= self.count();

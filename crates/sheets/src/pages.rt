@@ -28,7 +28,8 @@ impl Page {
 pub fn next_page<C: Content>(content: &mut C, form: u32) -> Page
     ensures page { result ≡ page_of form (C.strips content.old) }
     ensures some { 0 < length (C.strips content.old) → 0 < result.strips }
-    ensures rest { C.strips content.new ≡ drop (choice form (C.strips content.old)).0 (C.strips content.old) }
+    ensures rest { C.strips content.new
+        ≡ drop (choice form (C.strips content.old)).0 (C.strips content.old) }
     ensures reach { C.reach content.new ≡ C.reach content.old }
 {
     let (strips, rank, height) = page_end(content, form);
