@@ -1,5 +1,5 @@
 // The strips of a content between two places, and where a page of them ends.
-ghost use Rattle.std.specs.Prelude.{◌≡◌, ◌-◌, ◌≤◌, Some};
+ghost use Rattle.std.specs.Prelude.{◌≡◌, ◌-◌, ◌^◌, ◌<◌, ◌≤◌, Some};
 ghost use Rattle.std.specs.List.{slice_get};
 ghost use Rattle.content.specs.Bounds.{Bounded};
 ghost use Rattle.content.specs.Laws.{Within};
@@ -21,8 +21,8 @@ impl<C: Content> Stretch<'_, C> {
     ghost use Rattle.choice.specs.StopNumbers.{numbers_of};
     ghost use Rattle.choice.specs.Stretches.{strips_of};
 
-    // There are no more strips than this.
-    pub(crate) fn most(&self) -> u32
+    // There are at most so many.
+    pub(crate) fn max_len(&self) -> u32
         ensures { result ≡ self.now.end - self.now.from }
     {
         self.end.saturating_sub(self.from)
@@ -34,14 +34,15 @@ impl<C: Content> Stretch<'_, C> {
         ensures bounded { Bounded result }
     {
         // As a chain of `filter` and `and_then` it asks for more proof.
-        if k < self.most() {
+        if k < self.max_len() {
             self.content.strip(self.from + k)
         } else {
             None
         }
     }
 
-    // Where a page of this height ends that begins with the first of them.
+    // Where a page of this height ends that begins with the first of them. It has the clauses of the public `choose`,
+    // which itself then wants no proof by hand.
     pub(crate) fn choose(&self, page: u32) -> (u32, Rank, u32)
         ensures value { result ≡ choice page (strips_of C.Content self.now) }
         ensures best { EndsBest page (strips_of C.Content self.now) result }
@@ -60,12 +61,12 @@ impl<C: Content> Stretch<'_, C> {
         requires read { slice_get (strips_of C.Content self.now) 0 ≡ Some first }
         requires bounded { Within 200000 first }
         ensures best { numbers_of result ≡ choice page (strips_of C.Content self.now) }
-        ensures low { result.height ≤ 4294967295 }
+        ensures low { result.height < 2 ^ 32 }
     {
         let mut body = opening(first);
         let mut next = self.strip(1);
         let mut best = Stop::first(first, next);
-        for k in 1..self.most() {
+        for k in 1..self.max_len() {
             let Some(strip) = next else { break };
             body += added(strip);
             if must_end_before(page, strip, body) {

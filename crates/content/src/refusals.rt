@@ -1,4 +1,5 @@
-/// What a refused call tells. Each layer has its own enum of faults; these are the numbers that the console shows of one.
+/// What a refused call tells by numbers. In the code each layer has an enum of its faults; docs/REFUSALS.md lists
+/// the numbers of each.
 #[derive(Clone, Copy, PartialEq, Eq, Debug)]
 pub struct Refusal {
     /// Which check failed.

@@ -12,6 +12,7 @@ pub fn bales_from<C: Content>(content: &C, from: u32, k: u32) -> u64
     add_up(content, from, k)
 }
 
+// The loop of `bales_from`. That function itself then wants no proof by hand.
 fn add_up<C: Content>(content: &C, from: u32, k: u32) -> u64
     ensures { result ≡ bales_of (take k (drop from (C.strips content.now))) }
 {

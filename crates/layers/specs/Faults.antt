@@ -1,8 +1,13 @@
--- The number, layer, node and place of each fault of a layer.
-use Rattle.std.specs.Prelude.{ℕ}
+-- What each fault of a layer says, and its number, layer, node and place.
+use Rattle.std.specs.Prelude.{ℕ, List, codes}
 use Rattle.content.specs.declared.refusals.Refusal.{Refusal}
 use Rattle.layers.specs.declared.faults.LayerFault.{LayerFault}
 use Rattle.layers.specs.declared.faults.LayerFault.TheVariants.{Begun, BoxLimit, PairLimit}
+
+abbrev pub fault_words : LayerFault → List ℕ
+fault_words Begun = codes "a strip was already taken through the layer"
+fault_words BoxLimit = codes "the padding or the reach with it is too large"
+fault_words PairLimit = codes "no such break word, too large a gap, or too many strips"
 
 abbrev refused : ℕ → Refusal
 refused check = record { number = check; layer = 2; node = 0; place = 0 }

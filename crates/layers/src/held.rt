@@ -6,7 +6,7 @@ ghost use Rattle.layers.specs.Places.{Change, first_at, last_at};
 
 use content::{Content, Strip};
 
-#[derive(Drop)]
+#[derive(PartialEq, Eq, Debug, Drop)]
 pub(crate) struct Held<C> {
     content: C,
     // Whether a strip was taken through the layer. The content is there either way, so it is no Option.
@@ -14,7 +14,7 @@ pub(crate) struct Held<C> {
 }
 
 /// A strip of a content, and where it stands in its layer.
-#[derive(Clone, Copy)]
+#[derive(Clone, Copy, PartialEq, Eq, Debug)]
 pub struct Placed {
     pub strip: Strip,
     /// It is the first, and none was taken before it. A lone strip is both, so these are two flags.

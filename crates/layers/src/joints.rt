@@ -70,7 +70,7 @@ impl BreakWord {
 
 pub(crate) const MAX_GAP: u32 = 4_095;
 
-#[derive(Clone, Copy)]
+#[derive(Clone, Copy, PartialEq, Eq, Debug)]
 pub(crate) struct Joint {
     pub(crate) word: BreakWord,
     pub(crate) gap: u32,

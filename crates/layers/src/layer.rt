@@ -27,7 +27,7 @@ pub trait Effect {
 }
 
 /// A content, and what is done to its strips.
-#[derive(Drop)]
+#[derive(PartialEq, Eq, Debug, Drop)]
 pub struct Layer<E, C> {
     pub(crate) effect: E,
     pub(crate) held: Held<C>,

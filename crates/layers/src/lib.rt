@@ -9,6 +9,7 @@ mod layer;
 mod padding;
 mod pairs;
 
+// `Layer` and `Effect` stay inside: no other crate makes a layer of its own.
 pub use faults::LayerFault;
 pub use joints::{BreakWord, UnknownWord};
 pub use keeps::Keep;

@@ -20,6 +20,8 @@ pub enum DecorationBreak {
     Clone,
 }
 
+const MAX_PADDING: u32 = 4_095;
+
 /// How much stands above and below the strips of a box.
 #[derive(Clone, Copy, Default, PartialEq, Eq, Debug)]
 pub struct Padding {
@@ -34,7 +36,7 @@ impl Padding {
         ensures { result ≡ padding_fits reach self }
     {
         let sum = reach.saturating_add(self.top).saturating_add(self.bottom);
-        self.top <= 4_095 && self.bottom <= 4_095 && sum <= 200_000
+        self.top <= MAX_PADDING && self.bottom <= MAX_PADDING && sum <= 200_000
     }
 
     // What it means over a content of this reach: past the limits, nothing.

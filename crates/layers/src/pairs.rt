@@ -10,7 +10,7 @@ use crate::joints::{BreakWord, Joint, MAX_GAP};
 use content::{Content, Strip};
 
 /// One content after another.
-#[derive(Drop)]
+#[derive(PartialEq, Eq, Debug, Drop)]
 pub struct Pair<A, B> {
     first: Held<A>,
     second: Held<B>,
@@ -19,7 +19,7 @@ pub struct Pair<A, B> {
 }
 
 impl<A: Content, B: Content> Pair<A, B> {
-    ghost use Rattle.layers.specs.Pairs.{JoinedBy, PartsLeft, both_left, first_count, first_of, join_checked, joint_of, joint_over, pair_begun, pair_content, pair_joint, pair_left, pair_reach, second_count, second_of};
+    ghost use Rattle.layers.specs.Pairs.{JoinedBy, PartsLeft, both_left, first_count, first_of, join_checked, joint_of, joint_over, pair_begun, pair_joint, pair_left, pair_reach, second_count, second_of};
     ghost use Rattle.content.specs.Takes.{TakenOff};
 
     /// The first part alone, until the parts are joined.

@@ -88,5 +88,6 @@ fn hold(held: &mut Vec<Row>, rows: &[Row]) -> Result<(), AllocError>
 {
     held.reserve(rows.len().saturating_sub(held.len()))?;
     held.clear();
+    // Room was reserved, so this does not fail and no row is lost.
     held.extend_from_slice(rows)
 }

@@ -20,7 +20,7 @@ pub trait Source {
     ghost lawful: { (s : Self) → Lawful (strips s) 65535 };
 }
 
-/// The strips of a source, less those that were taken off the front.
+/// The strips of a source, less those that were taken off the front. It is copied where its source can be.
 #[derive(Clone, Copy, PartialEq, Eq, Debug, Drop)]
 pub struct Piece<S> {
     pub(crate) source: S,
@@ -28,7 +28,6 @@ pub struct Piece<S> {
 }
 
 impl<S: Source> From<S> for Piece<S> {
-    ghost use Rattle.std.specs.Prelude.{refl};
     ghost use Rattle.pieces.specs.Pieces.{IsWhole};
 
     ghost from_gives = { IsWhole S.strips };

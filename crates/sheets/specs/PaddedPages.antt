@@ -1,5 +1,5 @@
 -- What the padding of a box takes of each page.
-use Rattle.std.specs.Prelude.{◌≡◌, ℕ, ◌+◌, ◌≤◌, Bool, cond, not, ◌||◌, List, length, ◌==◌}
+use Rattle.std.specs.Prelude.{◌≡◌, ℕ, ◌+◌, ◌≤◌, Bool, if◌then◌else◌, not, ◌||◌, List, length, ◌==◌}
 use Rattle.content.specs.declared.strips.Strip.{Strip}
 use Rattle.choice.specs.Stops.{stop_height}
 use Rattle.layers.specs.declared.padding.Padding.{Padding}
@@ -11,4 +11,6 @@ use Rattle.layers.specs.Places.{by_place}
 abbrev pub PaddingOnPages : Type 0
 PaddingOnPages =
     (by : Padding) (begun : Bool) (xs : List Strip) (k : ℕ) → 1 ≤ k → k ≤ length xs
-    → stop_height (by_place (padded by) begun xs) k ≡ stop_height xs k + cond (repeats by.at_breaks || not begun) by.top 0 + cond (repeats by.at_breaks || k == length xs) by.bottom 0
+    → stop_height (by_place (padded by) begun xs) k ≡ stop_height xs k
+    + (if repeats by.at_breaks || not begun then by.top else 0)
+    + (if repeats by.at_breaks || k == length xs then by.bottom else 0)

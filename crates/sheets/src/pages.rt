@@ -1,5 +1,5 @@
 // One page of a list.
-ghost use Rattle.std.specs.Prelude.{◌≡◌, ◌<◌, ◌≤◌, length, drop, nat_lt};
+ghost use Rattle.std.specs.Prelude.{◌≡◌, ◌<◌, ◌≤◌, ◌↔◌, length, drop, IsTrue};
 ghost use Rattle.choice.specs.Choice.{choice};
 ghost use Rattle.sheets.specs.NextPage.{page_of};
 
@@ -18,7 +18,7 @@ pub struct Page {
 impl Page {
     /// A page is over where it is higher than its form.
     pub fn is_over(&self, form: u32) -> bool
-        ensures { result ≡ nat_lt form self.now.height }
+        ensures { IsTrue result ↔ (form < self.now.height) }
     {
         form < self.height
     }
