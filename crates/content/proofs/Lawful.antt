@@ -1,9 +1,8 @@
 -- The laws of a content: they outlast a take, bound each strip that is read, and hold of two lists together.
-use Rattle.std.proofs.Common.{◌≡◌, ℕ, zero, suc, ◌+◌, ◌-◌, ◌<◌, ◌≤◌, List, [], ◌∷◌, ◌++◌, length, get_or, drop, refl, ap, ◌∙◌, inl, inr, add_assoc, arith}
+use Rattle.std.proofs.Common.{ℕ, zero, suc, ◌+◌, ◌-◌, ◌≤◌, List, [], ◌∷◌, ◌++◌, length, drop, arith}
 use Rattle.std.specs.List.{slice_get, AllByRecursion}
 use Rattle.std.proofs.lemmas.List.{length-drop, length-append, get_or-drop, get_or_append_left, get_or-append_right}
 use Rattle.std.proofs.ByRecursion.{All-append, All-drop, All-weaker}
-use Rattle.std.proofs.lemmas.Bool.{cases_lt}
 use Rattle.content.specs.declared.strips.Strip.{Strip}
 use Rattle.content.specs.Strips.{blank}
 use Rattle.content.specs.Laws.{Within, TailsGiveWay, LastHasNoTail, Lawful}
@@ -11,12 +10,10 @@ use Rattle.content.specs.Bounds.{Bounded}
 
 module _ (n : ℕ) (xs : List Strip) where
   TailsGiveWay-drop : TailsGiveWay xs → TailsGiveWay (drop n xs)
-  TailsGiveWay-drop tails k h =
-      let law = tails (n + k) (omega (arith, length-drop n xs)) in
-      rw (get_or-drop n xs k blank, get_or-drop n xs (k + 1) blank, ← add_assoc n k 1) law
+  TailsGiveWay-drop tails k h = grind (arith, tails (n + k), length-drop n xs, get_or-drop n xs)
 
   LastHasNoTail-drop : LastHasNoTail xs → LastHasNoTail (drop n xs)
-  LastHasNoTail-drop last k h = rw (get_or-drop n xs k blank) (last (n + k) (omega (arith, length-drop n xs)))
+  LastHasNoTail-drop last k h = grind (arith, last (n + k), length-drop n xs, get_or-drop n xs)
 
   pub Lawful-drop : (reach : ℕ) → Lawful xs reach → Lawful (drop n xs) reach
   Lawful-drop reach l = record {
@@ -58,33 +55,11 @@ Lawful_wider low high xs h bounded l = record {
 
 -- Two lists one after the other: the last strip of the first has no tail, so it asks nothing of the second.
 module _ (xs ys : List Strip) where
-  in_first : (k : ℕ) → k < length xs → get_or (xs ++ ys) k blank ≡ get_or xs k blank
-  in_first k h = get_or_append_left xs ys blank k h
-
-  in_second : (k : ℕ) → length xs ≤ k → get_or (xs ++ ys) k blank ≡ get_or ys (k - length xs) blank
-  in_second k h = get_or-append_right xs ys (length xs) k blank refl h
-
   TailsGiveWay-append : TailsGiveWay xs → LastHasNoTail xs → TailsGiveWay ys → TailsGiveWay (xs ++ ys)
-  TailsGiveWay-append first last second k h =
-      let long = length-append xs ys in
-      elim (cases_lt k (length xs)) [
-        | inl here ↦ elim (cases_lt (k + 1) (length xs)) [
-          | inl next ↦ rw (in_first k here, in_first (k + 1) next) (first k next)
-          | inr past ↦ omega (arith, ap (λ s. s.tail) (in_first k here), last k (omega arith))
-        ]
-        | inr past ↦
-            let j = k - length xs in
-            let one : (k + 1) - length xs ≡ j + 1 = omega arith in
-            rw (in_second k past, in_second (k + 1) (omega arith), one) (second j (omega arith))
-      ]
+  TailsGiveWay-append first last second k h = grind (arith, length-append xs ys, get_or_append_left xs ys blank, get_or-append_right xs ys (length xs), first k, last k, second (k - length xs))
 
   LastHasNoTail-append : LastHasNoTail xs → LastHasNoTail ys → LastHasNoTail (xs ++ ys)
-  LastHasNoTail-append first second k h =
-      let long = length-append xs ys in
-      elim (cases_lt k (length xs)) [
-        | inl here ↦ ap (λ s. s.tail) (in_first k here) ∙ first k (omega arith)
-        | inr past ↦ ap (λ s. s.tail) (in_second k past) ∙ second (k - length xs) (omega arith)
-      ]
+  LastHasNoTail-append first second k h = grind (arith, length-append xs ys, get_or_append_left xs ys blank, get_or-append_right xs ys (length xs), first k, second (k - length xs))
 
   pub Lawful-append : (reach : ℕ) → length xs + length ys ≤ 1000000 → Lawful xs reach → Lawful ys reach → Lawful (xs ++ ys) reach
   Lawful-append reach few first second = record {
