@@ -1,3 +1,2 @@
-pub mod Nth
 pub mod Lawful
 pub mod Bales
