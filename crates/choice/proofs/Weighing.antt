@@ -1,27 +1,19 @@
 -- Weighing the stops in turn: what holds when the first k are weighed.
-use Rattle.std.proofs.Common.{◌≡◌, ℕ, ◌+◌, ◌-◌, ◌<◌, ◌≤◌, Bool, true, false, cond, ltb, leb, ◌&&◌, ◌||◌, ◌≢◌, ◌⊎◌, List, [], ◌∷◌, Some, None, Option, sym, refl, ap, ◌∙◌, inl, inr, arith}
-use Rattle.std.proofs.lemmas.Bool.{cases_lt, leb-true}
-use Rattle.content.specs.Ranks.{rank_number}
+use Rattle.std.proofs.Common.{◌≡◌, ℕ, ◌+◌, ◌-◌, ◌<◌, ◌≤◌, Bool, true, false, cond, ◌⊎◌, List, [], ◌∷◌, Some, None, Option, refl, ◌∙◌, inl, inr, arith}
 use Rattle.std.specs.List.{slice_get}
 use Rattle.content.specs.declared.ranks.Rank.TheVariants.{Forced}
 use Rattle.content.specs.declared.strips.Strip.{Strip}
 use Rattle.std.proofs.lemmas.Option.{slice_get_within}
-use Rattle.choice.specs.Stops.{rank_before, stop_rank, body, stop_height, IsLimit, limit}
+use Rattle.choice.specs.Stops.{rank_before, body, IsLimit, limit}
 use Rattle.choice.specs.Choice.{Stop, stop_at, choice, better}
 use Rattle.content.specs.Bounds.{Bounded}
+use Rattle.std.proofs.lemmas.Bool.Decides.{nat_tests}
 use Rattle.choice.proofs.Limits.{limit_is, limit_at_forced, limit_at_end, limit_past}
 use Rattle.choice.proofs.Heights.{body_more, body_grows, height_at}
 use Rattle.choice.proofs.Picks.{pick, pick_more, pick_rest}
 
-carried : {A B : Type 0} (f : A → B) (b : Bool) (x y : A) → cond b (f x) (f y) ≡ f (cond b x y)
-carried f true x y = refl
-carried f false x y = refl
-
 abbrev pub stop_by : ℕ → Option Strip → ℕ → Stop
 stop_by k next tall = (k, rank_before next, tall)
-
-stop_is : (xs : List Strip) (k : ℕ) (next : Option Strip) (tall : ℕ) → next ≡ slice_get xs k → tall ≡ stop_height xs k → stop_by k next tall ≡ stop_at xs k
-stop_is xs k next tall is_next is_tall = ap (λ o. stop_by k o tall) is_next ∙ ap (stop_by k (slice_get xs k)) is_tall
 
 pub choice_is : (page : ℕ) (xs : List Strip) → 1 ≤ limit xs → choice page xs ≡ stop_at xs (pick page xs (limit xs))
 unfolding choice
@@ -32,13 +24,13 @@ has_limit : (xs : List Strip) → 1 ≤ limit xs → IsLimit xs (limit xs)
 has_limit [] h = absurd (omega arith)
 has_limit (x ∷ xs) h = limit_is x xs
 
+carried : {A B : Type 0} (f : A → B) (b : Bool) (x y : A) → cond b (f x) (f y) ≡ f (cond b x y)
+carried f true x y = refl
+carried f false x y = refl
+
 -- A stop that fits a page is as low as that.
 better_narrow : (page : ℕ) (nearer farther new : Stop) → page < 4294967296 → nearer.2 ≤ 4294967295 → new ≡ better page nearer farther → new.2 ≤ 4294967295
-better_narrow page nearer farther new h low is = rw is (either (leb farther.2 page) refl (ltb page nearer.2 || leb (rank_number farther.1) (rank_number nearer.1))) where
-  either : (b : Bool) → leb farther.2 page ≡ b → (c : Bool) → (cond (b && c) farther nearer).2 ≤ 4294967295
-  either true fits true = omega (arith, leb-true farther.2 page fits)
-  either true fits false = low
-  either false over c = low
+better_narrow page nearer farther new h low is = grind (arith, nat_tests)
 
 -- The first k strips are weighed: their height without the tail, the strip after them, and the best stop so far.
 pub record Weighed (page : ℕ) (xs : List Strip) (k tall : ℕ) (next : Option Strip) (best : Stop) : Type 0 where
@@ -57,48 +49,38 @@ module _ {page : ℕ} {xs : List Strip} {k tall : ℕ} {old : Option Strip} {bes
 
   -- At the limit the best of the stops weighed is the choice.
   ends_at : pick page xs k ≡ pick page xs (limit xs) → best ≡ choice page xs
-  ends_at same = w.is_best ∙ ap (stop_at xs) same ∙ sym (choice_is page xs limit_here.some)
+  ends_at same = grind (arith, w.is_best, choice_is page xs limit_here.some)
 
   pub weighing_runs_out : old ≡ None → best ≡ choice page xs
-  weighing_runs_out gone = ends_at (ap (pick page xs) (limit_at_end xs (limit xs) k limit_here w.some w.within (sym w.is_next ∙ gone)))
+  weighing_runs_out gone = grind (arith, ends_at, limit_at_end xs (limit xs) k limit_here w.some w.within)
 
   -- One turn: strip s follows.
   module _ {s : Strip} (follows : old ≡ Some s) {more : ℕ} (adds : more ≡ s.lead + s.height) where
     read : slice_get xs k ≡ Some s
-    read = sym w.is_next ∙ follows
+    read = cc
 
     next_body : tall + more ≡ body xs (k + 1)
     next_body = omega (arith, w.is_body, body_more xs k s w.some read)
 
-    rank_here : stop_rank xs k ≡ s.rank
-    rank_here = ap rank_before read
-
-    goes_past : s.rank ≢ Forced → k < limit xs
-    goes_past free = limit_past xs (limit xs) k limit_here w.some w.within (λ e. free (sym rank_here ∙ e)) (slice_get_within xs k s read)
-
     -- The page may hold the strip.
     pub weighing_goes_on : {next : Option Strip} {farther new : Stop} → ((s.rank ≡ Forced) ⊎ (page < tall + more) → ⊥) → page < 4294967296 → next ≡ slice_get xs (k + 1) → Bounded next → farther ≡ stop_by (k + 1) next (tall + more + s.tail) → new ≡ better page best farther → Weighed page xs (k + 1) (tall + more) next new
     weighing_goes_on {next} {farther} {new} stays narrow is_next bounded is_farther is_new =
-        let low : tall + more ≤ page = elim (cases_lt page (tall + more)) [ inl high ↦ absurd (stays (inr high)) | inr low ↦ low ] in
+        let low : tall + more ≤ page = grind (arith, stays) in
         record {
           some = omega arith;
-          within = omega (arith, goes_past (λ e. stays (inl e)));
+          within = grind (arith, stays, read, limit_past xs (limit xs) k limit_here w.some w.within, slice_get_within xs k s read);
           is_body = next_body;
           bound = omega arith;
           is_next = is_next;
           bounded = bounded;
           is_best =
-              is_new
-              ∙ ap (better page best) (is_farther ∙ stop_is xs (k + 1) next (tall + more + s.tail) is_next (omega (arith, next_body, height_at xs k s read)))
-              ∙ ap (λ b. better page b (stop_at xs (k + 1))) w.is_best
-              ∙ carried (stop_at xs) _ (k + 1) (pick page xs k)
-              ∙ ap (stop_at xs) (sym (pick_more page xs k w.some));
+              let far : farther ≡ stop_at xs (k + 1) = grind (arith, next_body, height_at xs k s read) in
+              is_new ∙ rw (w.is_best, far, pick_more page xs k w.some) (carried (stop_at xs) _ (k + 1) (pick page xs k));
           narrow = better_narrow page best farther new narrow w.narrow is_new;
         }
 
     pub weighing_ends : (s.rank ≡ Forced) ⊎ (page < tall + more) → best ≡ choice page xs
-    weighing_ends (inl forced) = ends_at (ap (pick page xs) (limit_at_forced xs (limit xs) k limit_here w.some w.within (rank_here ∙ forced)))
+    weighing_ends (inl forced) = grind (arith, ends_at, read, limit_at_forced xs (limit xs) k limit_here w.some w.within)
     weighing_ends (inr high) =
-        let left = limit xs - k in
-        let all : k + left ≡ limit xs = omega (arith, w.within) in
-        ends_at (sym (pick_rest page xs k left (λ j h. omega (arith, next_body, body_grows xs (k + 1) j (omega arith) (omega arith)))) ∙ ap (pick page xs) all)
+        let rest = pick_rest page xs k (limit xs - k) (λ j h. omega (arith, next_body, body_grows xs (k + 1) j (omega arith) (omega arith))) in
+        grind (arith, ends_at, rest, w.within)
