@@ -3,7 +3,8 @@ use Rattle.std.proofs.Common.{◌≡◌, ℕ, zero, suc, ◌+◌, ◌<◌, ◌�
 use Rattle.std.specs.List.{range_with_len}
 use Rattle.std.proofs.lemmas.List.{append-nil, map-id}
 use Rattle.std.proofs.lemmas.List.Elements.{filter-append}
-use Rattle.std.proofs.lemmas.List.FromFn.{map-range_with_len_more}
+use Rattle.std.proofs.lemmas.List.FromFn.{filter_of_map_range_with_len_more}
+use Rattle.std.proofs.lemmas.Bool.Decides.{nat_tests}
 use Rattle.std.proofs.lemmas.List.Sums.{fold_push}
 use Rattle.std.proofs.lemmas.Bool.{cases_lt, leb-true, leb-false, lt-ltb, le-ltb, lt-leb}
 use Rattle.content.specs.declared.ranks.Rank.{Rank}
@@ -14,27 +15,8 @@ use Rattle.choice.specs.Stops.{stop_rank, stop_height}
 use Rattle.choice.specs.Choice.{fits, fitting, lowest_farthest}
 use Rattle.choice.specs.Law.{FitsUpTo, Worse, BestUpTo}
 
-abbrev ranked : ℕ → Rank
-ranked zero = Forced
-ranked (suc zero) = Free
-ranked (suc (suc zero)) = AgainstOrphansOrWidows
-ranked (suc (suc (suc n))) = AgainstAvoid
-
-ranked_back : (r : Rank) → ranked (rank_number r) ≡ r
-ranked_back Forced = refl
-ranked_back Free = refl
-ranked_back AgainstOrphansOrWidows = refl
-ranked_back AgainstAvoid = refl
-
 same_rank : (a b : Rank) → rank_number a ≡ rank_number b → a ≡ b
-same_rank a b e = sym (ranked_back a) ∙ ap ranked e ∙ ranked_back b
-
-counting_more : (m : ℕ) → range_with_len 1 (suc m) ≡ range_with_len 1 m ++ suc m ∷ []
-counting_more m =
-    sym (map-id (range_with_len 1 (suc m)))
-    ∙ ap (λ n. map (λ x. x) (range_with_len 1 n)) (sym (add-one m))
-    ∙ map-range_with_len_more (λ x. x) 1 m (suc m) (one-add m)
-    ∙ ap (λ ks. ks ++ suc m ∷ []) (map-id (range_with_len 1 m))
+same_rank a b e = grind arith
 
 abbrev pub none_there : List ℕ → Bool
 none_there [] = true
@@ -53,7 +35,7 @@ module _ (page : ℕ) (xs : List Strip) where
   pick m = lowest_farthest xs (fitting page xs m)
 
   fitting_more : (m : ℕ) → fitting page xs (suc m) ≡ fitting page xs m ++ cond (fits page xs (suc m)) (suc m ∷ []) []
-  fitting_more m = ap (filter (fits page xs)) (counting_more m) ∙ filter-append (fits page xs) (range_with_len 1 m) (suc m ∷ [])
+  fitting_more m = grind (arith, filter_of_map_range_with_len_more (fits page xs) (λ k. k) 1 m (suc m), map-id (range_with_len 1 m), map-id (range_with_len 1 (m + 1)))
 
   pick_push : (ks : List ℕ) (j : ℕ) → lowest_farthest xs (ks ++ j ∷ []) ≡ cond (none_there ks || leb (rank_of j) (rank_of (lowest_farthest xs ks))) j (lowest_farthest xs ks)
   pick_push [] j = refl
@@ -65,15 +47,13 @@ module _ (page : ℕ) (xs : List Strip) where
     some : {k : ℕ} → FitsUpTo m page xs k → ((j : ℕ) → FitsUpTo m page xs j → (j ≡ k) ⊎ Worse xs k j) → Picked m false k
 
   near_or_here : (m j : ℕ) → FitsUpTo (suc m) page xs j → (FitsUpTo m page xs j) ⊎ (j ≡ suc m)
-  near_or_here m j f = elim (cases_lt j (suc m)) [ inl h ↦ inl (record { some = f.some; near = omega arith; low = f.low }) | inr h ↦ inr (omega (arith, f.near)) ]
+  near_or_here m j f = grind arith
 
   farther : (m j : ℕ) → FitsUpTo m page xs j → FitsUpTo (suc m) page xs j
-  farther m j f = record { some = f.some; near = omega (arith, f.near); low = f.low }
+  farther m j f = grind arith
 
   unfit : (n m j : ℕ) → fits page xs m ≡ false → FitsUpTo n page xs j → j ≡ m → ⊥
-  unfit n m j high f e =
-      let low : stop_height xs m ≤ page = subst (λ i. stop_height xs i ≤ page) e f.low in
-      omega (arith, leb-false (stop_height xs m) page high)
+  unfit n m j high f e = grind (arith, nat_tests)
 
   -- A stop that does not fit changes nothing.
   keeps : (m k : ℕ) (b : Bool) → fits page xs (suc m) ≡ false → Picked m b k → Picked (suc m) b k
@@ -82,15 +62,7 @@ module _ (page : ℕ) (xs : List Strip) where
 
   -- A stop farther on, of a rank that is no higher, makes every stop worse that the one before it did, and that one too.
   outdone : (k l j : ℕ) → k < l → rank_of l ≤ rank_of k → (j ≡ k) ⊎ Worse xs k j → Worse xs l j
-  outdone k l j far low (inl e) = elim (cases_lt (rank_of l) (rank_of k)) [
-    | inl h ↦ inl (omega (arith, ap rank_of e))
-    | inr h ↦ inr (ap (stop_rank xs) e ∙ same_rank (stop_rank xs k) (stop_rank xs l) (omega arith), omega arith)
-  ]
-  outdone k l j far low (inr (inl h)) = inl (omega arith)
-  outdone k l j far low (inr (inr p)) = elim (cases_lt (rank_of l) (rank_of k)) [
-    | inl h ↦ inl (omega (arith, ap rank_number p.0))
-    | inr h ↦ inr (p.0 ∙ same_rank (stop_rank xs k) (stop_rank xs l) (omega arith), omega (arith, p.1))
-  ]
+  outdone k l j far low old = grind (arith, same_rank (stop_rank xs k) (stop_rank xs l))
 
   here : (m : ℕ) → fits page xs (suc m) ≡ true → FitsUpTo (suc m) page xs (suc m)
   here m low = record { some = omega arith; near = omega arith; low = leb-true (stop_height xs (suc m)) page low }
