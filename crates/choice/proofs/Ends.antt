@@ -4,28 +4,27 @@ use Rattle.std.specs.List.{slice_get}
 use Rattle.content.specs.declared.ranks.Rank.TheVariants.{Free}
 use Rattle.content.specs.declared.strips.Strip.{Strip}
 use Rattle.choice.specs.Stops.{limit}
-use Rattle.choice.specs.Choice.{fitting, choice}
+use Rattle.choice.specs.Choice.{choice}
 use Rattle.choice.specs.Law.{EndsBest}
 use Rattle.choice.proofs.Limits.{limit_is}
-use Rattle.choice.proofs.Picks.{none_there, pick, picked, picked_within, picked_best}
+use Rattle.choice.proofs.Picks.{picked, picked_within, picked_best}
 
 pub choice_ends_best : (page : ℕ) (xs : List Strip) → EndsBest page xs (choice page xs)
 unfolding choice
 choice_ends_best page [] = refl
 choice_ends_best page (x ∷ xs) =
     let all = x ∷ xs in
-    let m = limit all in
     let is = limit_is x xs in
-    let p = picked page all m in
-    let within = picked_within page all m (pick page all m) (none_there (fitting page all m)) is.some p in
+    let p = picked page all (limit all) in
+    let within = picked_within page all is.some p in
     record {
-      farthest = m;
+      farthest = limit all;
       is_limit = is;
       some = within.0;
       near = within.1;
       rank = refl;
       height = refl;
-      best = picked_best page all m (pick page all m) (none_there (fitting page all m)) is.some p;
+      best = picked_best page all is.some p;
     }
 
 pub choice_within : (page : ℕ) (xs : List Strip) → (choice page xs).0 ≤ length xs
@@ -38,4 +37,4 @@ choice_within page (x ∷ xs) =
 pub choice_of_nothing : (page : ℕ) (xs : List Strip) → slice_get xs 0 ≡ None → (0, Free, 0) ≡ choice page xs
 unfolding choice
 choice_of_nothing page [] gone = refl
-choice_of_nothing page (x ∷ xs) gone = absurd (let z : ◌≡◌ {A = ℕ} 0 1 = cc in omega arith)
+choice_of_nothing page (x ∷ xs) gone = cc

@@ -8,12 +8,12 @@ use Rattle.std.proofs.lemmas.List.Sums.{prefix_len-le-length}
 use Rattle.std.proofs.lemmas.Bool.Decides.{nat_tests}
 use Rattle.std.proofs.lemmas.Option.{slice_get-get_or, slice_get_past}
 use Rattle.choice.specs.Stops.{body, stop_height, limit}
-use Rattle.choice.specs.Choice.{fitting, stop_at, choice}
+use Rattle.choice.specs.Choice.{stop_at, choice}
 use Rattle.choice.specs.Law.{PastPageChangesNothing}
 use Rattle.choice.proofs.Limits.{unforced, some_stop}
 use Rattle.choice.proofs.Heights.{body_grows}
 use Rattle.choice.proofs.Weighing.{choice_is}
-use Rattle.choice.proofs.Picks.{none_there, pick, pick_one, pick_more, pick_rest, picked, picked_within}
+use Rattle.choice.proofs.Picks.{pick, pick_one, pick_more, pick_rest, picked, picked_within}
 
 limit_front : (n : ℕ) (xs : List Strip) → limit (take n xs) ≡ min n (limit xs)
 limit_front zero xs = omega arith
@@ -33,7 +33,7 @@ module _ (xs : List Strip) (n j : ℕ) (some : 1 ≤ j) where
 
 module _ (page : ℕ) (xs : List Strip) where
   within : (m : ℕ) → 1 ≤ m → (1 ≤ pick page xs m) × (pick page xs m ≤ m)
-  within m h = picked_within page xs m (pick page xs m) (none_there (fitting page xs m)) h (picked page xs m)
+  within m h = picked_within page xs h (picked page xs m)
 
   pick_front : (n m : ℕ) → 1 ≤ m → m < n → pick page (take n xs) m ≡ pick page xs m
   pick_front n zero some h = absurd (omega arith)
