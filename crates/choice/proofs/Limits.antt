@@ -1,13 +1,12 @@
 -- The limit is the least stop of rank 0, or the last stop.
-use Rattle.std.proofs.Common.{◌≡◌, ℕ, ◌-◌, ◌<◌, ◌≤◌, Bool, not, ◌≢◌, List, ◌∷◌, length, None, arith}
-use Rattle.std.specs.List.{slice_get, prefix_len}
+use Rattle.std.proofs.Common.{◌-◌, ◌≤◌, Bool, not, List, ◌∷◌, length, arith}
+use Rattle.std.specs.List.{prefix_len}
 use Rattle.std.proofs.lemmas.List.Sums.{prefix_len-le-length, prefix_len_passes, prefix_len_stops}
 use Rattle.std.proofs.lemmas.Option.{slice_get-get_or}
 use Rattle.content.specs.Strips.{blank}
 use Rattle.std.proofs.lemmas.Grind.{get_or_tail}
-use Rattle.content.specs.declared.ranks.Rank.TheVariants.{Forced}
 use Rattle.content.specs.declared.strips.Strip.{Strip}
-use Rattle.choice.specs.Stops.{stop_rank, IsLimit, is_forced, limit}
+use Rattle.choice.specs.Stops.{IsLimit, is_forced, limit}
 
 abbrev pub unforced : Strip → Bool
 unforced s = not (is_forced s.rank)
@@ -25,14 +24,3 @@ limit_is x xs = record {
 -- Where there is a strip there is a stop.
 pub some_stop : (xs : List Strip) → 1 ≤ length xs → 1 ≤ limit xs
 some_stop xs h = grind arith
-
--- What the strip at a stop up to the limit tells of the limit.
-module _ (xs : List Strip) (m k : ℕ) (is : IsLimit xs m) (some : 1 ≤ k) (near : k ≤ m) where
-  pub limit_at_forced : stop_rank xs k ≡ Forced → k ≡ m
-  limit_at_forced forced = grind (arith, is.least k)
-
-  pub limit_at_end : slice_get xs k ≡ None → k ≡ m
-  limit_at_end none = grind (arith, is.within, slice_get-get_or xs k blank)
-
-  pub limit_past : stop_rank xs k ≢ Forced → k < length xs → k < m
-  limit_past free inside = grind (arith, is.ends)

@@ -3,6 +3,7 @@ use Rattle.std.proofs.Common.{◌≡◌, ℕ, zero, suc, ◌+◌, ◌<◌, ◌�
 use Rattle.std.specs.List.{range_with_len}
 use Rattle.std.proofs.lemmas.List.{append-nil, map-id}
 use Rattle.std.proofs.lemmas.List.FromFn.{filter_of_map_range_with_len_more}
+use Rattle.std.proofs.lemmas.Bool.{cond_both}
 use Rattle.std.proofs.lemmas.Bool.Decides.{nat_tests}
 use Rattle.std.proofs.lemmas.List.Sums.{fold_push}
 use Rattle.content.specs.declared.ranks.Rank.{Rank}
@@ -74,10 +75,7 @@ module _ (page : ℕ) (xs : List Strip) where
       rw (add-one, over_is h (picked m)) (ap (lowest_farthest xs) (fitting_more m) ∙ (turn (fits page xs (suc m)) (fitting page xs m) (suc m)).0)
 
   pub pick_one : pick 1 ≡ 1
-  pick_one = either (fits page xs 1) where
-    either : (b : Bool) → lowest_farthest xs (cond b (1 ∷ []) []) ≡ 1
-    either true = refl
-    either false = refl
+  pick_one = cond_both (fits page xs 1) (1 ∷ []) [] (λ ks. lowest_farthest xs ks ≡ 1) (λ _. refl) (λ _. refl)
 
   -- Where no stop past m fits, the best up to m is the best.
   pub pick_rest : (m n : ℕ) → ((j : ℕ) → m < j → page < stop_height xs j) → pick (m + n) ≡ pick m

@@ -3,17 +3,15 @@ use Rattle.std.proofs.Common.{◌≡◌, ℕ, ◌+◌, ◌-◌, ◌<◌, ◌≤�
 use Rattle.std.specs.List.{slice_get}
 use Rattle.content.specs.declared.ranks.Rank.TheVariants.{Forced}
 use Rattle.content.specs.declared.strips.Strip.{Strip}
-use Rattle.std.proofs.lemmas.Option.{slice_get_within}
+use Rattle.std.proofs.lemmas.Option.{slice_get_within, slice_get-get_or}
+use Rattle.content.specs.Strips.{blank}
 use Rattle.choice.specs.Stops.{rank_before, body, IsLimit, limit}
 use Rattle.choice.specs.Choice.{Stop, stop_at, choice, better}
 use Rattle.content.specs.Bounds.{Bounded}
 use Rattle.std.proofs.lemmas.Bool.Decides.{nat_tests}
-use Rattle.choice.proofs.Limits.{limit_is, limit_at_forced, limit_at_end, limit_past}
+use Rattle.choice.proofs.Limits.{limit_is}
 use Rattle.choice.proofs.Heights.{body_more, body_grows, height_at}
 use Rattle.choice.proofs.Picks.{pick, pick_more, pick_rest}
-
-abbrev pub stop_by : ℕ → Option Strip → ℕ → Stop
-stop_by k next tall = (k, rank_before next, tall)
 
 pub choice_is : (page : ℕ) (xs : List Strip) → 1 ≤ limit xs → choice page xs ≡ stop_at xs (pick page xs (limit xs))
 unfolding choice
@@ -27,10 +25,6 @@ has_limit (x ∷ xs) h = limit_is x xs
 carried : {A B : Type 0} (f : A → B) (b : Bool) (x y : A) → cond b (f x) (f y) ≡ f (cond b x y)
 carried f true x y = refl
 carried f false x y = refl
-
--- A stop that fits a page is as low as that.
-better_narrow : (page : ℕ) (nearer farther new : Stop) → page < 4294967296 → nearer.2 ≤ 4294967295 → new ≡ better page nearer farther → new.2 ≤ 4294967295
-better_narrow page nearer farther new h low is = grind (arith, nat_tests)
 
 -- The first k strips are weighed: their height without the tail, the strip after them, and the best stop so far.
 pub record Weighed (page : ℕ) (xs : List Strip) (k tall : ℕ) (next : Option Strip) (best : Stop) : Type 0 where
@@ -52,7 +46,7 @@ module _ {page : ℕ} {xs : List Strip} {k tall : ℕ} {old : Option Strip} {bes
   ends_at same = grind (arith, w.is_best, choice_is page xs limit_here.some)
 
   pub weighing_runs_out : old ≡ None → best ≡ choice page xs
-  weighing_runs_out gone = grind (arith, ends_at, limit_at_end xs (limit xs) k limit_here w.some w.within)
+  weighing_runs_out gone = grind (arith, ends_at, limit_here.within, slice_get-get_or xs k blank)
 
   -- One turn: strip s follows.
   module _ {s : Strip} (follows : old ≡ Some s) {more : ℕ} (adds : more ≡ s.lead + s.height) where
@@ -63,12 +57,12 @@ module _ {page : ℕ} {xs : List Strip} {k tall : ℕ} {old : Option Strip} {bes
     next_body = omega (arith, w.is_body, body_more xs k s w.some read)
 
     -- The page may hold the strip.
-    pub weighing_goes_on : {next : Option Strip} {farther new : Stop} → ((s.rank ≡ Forced) ⊎ (page < tall + more) → ⊥) → page < 4294967296 → next ≡ slice_get xs (k + 1) → Bounded next → farther ≡ stop_by (k + 1) next (tall + more + s.tail) → new ≡ better page best farther → Weighed page xs (k + 1) (tall + more) next new
+    pub weighing_goes_on : {next : Option Strip} {farther new : Stop} → ((s.rank ≡ Forced) ⊎ (page < tall + more) → ⊥) → page < 4294967296 → next ≡ slice_get xs (k + 1) → Bounded next → farther ≡ (k + 1, rank_before next, tall + more + s.tail) → new ≡ better page best farther → Weighed page xs (k + 1) (tall + more) next new
     weighing_goes_on {next} {farther} {new} stays narrow is_next bounded is_farther is_new =
         let low : tall + more ≤ page = grind (arith, stays) in
         record {
           some = omega arith;
-          within = grind (arith, stays, read, limit_past xs (limit xs) k limit_here w.some w.within, slice_get_within xs k s read);
+          within = grind (arith, stays, read, limit_here.ends, slice_get_within xs k s read);
           is_body = next_body;
           bound = omega arith;
           is_next = is_next;
@@ -76,11 +70,11 @@ module _ {page : ℕ} {xs : List Strip} {k tall : ℕ} {old : Option Strip} {bes
           is_best =
               let far : farther ≡ stop_at xs (k + 1) = grind (arith, next_body, height_at xs k s read) in
               is_new ∙ rw (w.is_best, far, pick_more page xs k w.some) (carried (stop_at xs) _ (k + 1) (pick page xs k));
-          narrow = better_narrow page best farther new narrow w.narrow is_new;
+          narrow = grind (arith, nat_tests);
         }
 
     pub weighing_ends : (s.rank ≡ Forced) ⊎ (page < tall + more) → best ≡ choice page xs
-    weighing_ends (inl forced) = grind (arith, ends_at, read, limit_at_forced xs (limit xs) k limit_here w.some w.within)
+    weighing_ends (inl forced) = grind (arith, ends_at, read, limit_here.least k)
     weighing_ends (inr high) =
         let rest = pick_rest page xs k (limit xs - k) (λ j h. omega (arith, next_body, body_grows xs (k + 1) j (omega arith) (omega arith))) in
         grind (arith, ends_at, rest, w.within)

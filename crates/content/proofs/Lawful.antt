@@ -5,35 +5,21 @@ use Rattle.std.proofs.lemmas.List.{length-drop, length-append, get_or-drop, get_
 use Rattle.std.proofs.ByRecursion.{All-append, All-drop, All-weaker}
 use Rattle.content.specs.declared.strips.Strip.{Strip}
 use Rattle.content.specs.Strips.{blank}
-use Rattle.content.specs.Laws.{Within, TailsGiveWay, LastHasNoTail, Lawful}
+use Rattle.content.specs.Laws.{Within, Lawful}
 use Rattle.content.specs.Bounds.{Bounded}
 
-module _ (n : ℕ) (xs : List Strip) where
-  TailsGiveWay-drop : TailsGiveWay xs → TailsGiveWay (drop n xs)
-  TailsGiveWay-drop tails k h = grind (arith, tails (n + k), length-drop n xs, get_or-drop n xs)
-
-  LastHasNoTail-drop : LastHasNoTail xs → LastHasNoTail (drop n xs)
-  LastHasNoTail-drop last k h = grind (arith, last (n + k), length-drop n xs, get_or-drop n xs)
-
-  pub Lawful-drop : (reach : ℕ) → Lawful xs reach → Lawful (drop n xs) reach
-  Lawful-drop reach l = record {
-    few = omega (arith, length-drop n xs, l.few);
-    bounded = l.bounded;
-    each = All-drop (Within reach) n xs l.each;
-    tails = TailsGiveWay-drop l.tails;
-    last = LastHasNoTail-drop l.last;
-  }
+pub Lawful-drop : (n : ℕ) (xs : List Strip) (reach : ℕ) → Lawful xs reach → Lawful (drop n xs) reach
+Lawful-drop n xs reach l = record {
+  few = omega (arith, length-drop n xs, l.few);
+  bounded = l.bounded;
+  each = All-drop (Within reach) n xs l.each;
+  tails = λ k h. grind (arith, l.tails (n + k), length-drop n xs, get_or-drop n xs);
+  last = λ k h. grind (arith, l.last (n + k), length-drop n xs, get_or-drop n xs);
+}
 
 -- A larger reach bounds what a smaller one does.
-pub Within_wider : (low high : ℕ) (s : Strip) → low ≤ high → Within low s → Within high s
-Within_wider low high s h w = record {
-  some_height = w.some_height;
-  height_within = omega arith;
-  lead_within = omega arith;
-  head_within = omega arith;
-  tail_within = omega arith;
-  bales_within = omega arith;
-}
+Within_wider : (low high : ℕ) (s : Strip) → low ≤ high → Within low s → Within high s
+Within_wider low high s h w = grind arith
 
 Bounded-from_all : (reach : ℕ) (xs : List Strip) (i : ℕ) → reach ≤ 200000 → AllByRecursion (Within reach) xs → Bounded (slice_get xs i)
 Bounded-from_all reach [] i h all = tt
@@ -54,18 +40,11 @@ Lawful_wider low high xs h bounded l = record {
 }
 
 -- Two lists one after the other: the last strip of the first has no tail, so it asks nothing of the second.
-module _ (xs ys : List Strip) where
-  TailsGiveWay-append : TailsGiveWay xs → LastHasNoTail xs → TailsGiveWay ys → TailsGiveWay (xs ++ ys)
-  TailsGiveWay-append first last second k h = grind (arith, length-append xs ys, get_or_append_left xs ys blank, get_or-append_right xs ys (length xs), first k, last k, second (k - length xs))
-
-  LastHasNoTail-append : LastHasNoTail xs → LastHasNoTail ys → LastHasNoTail (xs ++ ys)
-  LastHasNoTail-append first second k h = grind (arith, length-append xs ys, get_or_append_left xs ys blank, get_or-append_right xs ys (length xs), first k, second (k - length xs))
-
-  pub Lawful-append : (reach : ℕ) → length xs + length ys ≤ 1000000 → Lawful xs reach → Lawful ys reach → Lawful (xs ++ ys) reach
-  Lawful-append reach few first second = record {
-    few = omega (arith, length-append xs ys);
-    bounded = first.bounded;
-    each = All-append (Within reach) xs ys first.each second.each;
-    tails = TailsGiveWay-append first.tails first.last second.tails;
-    last = LastHasNoTail-append first.last second.last;
-  }
+pub Lawful-append : (xs ys : List Strip) (reach : ℕ) → length xs + length ys ≤ 1000000 → Lawful xs reach → Lawful ys reach → Lawful (xs ++ ys) reach
+Lawful-append xs ys reach few first second = record {
+  few = omega (arith, length-append xs ys);
+  bounded = first.bounded;
+  each = All-append (Within reach) xs ys first.each second.each;
+  tails = λ k h. grind (arith, length-append xs ys, get_or_append_left xs ys blank, get_or-append_right xs ys (length xs), first.tails k, first.last k, second.tails (k - length xs));
+  last = λ k h. grind (arith, length-append xs ys, get_or_append_left xs ys blank, get_or-append_right xs ys (length xs), first.last k, second.last (k - length xs));
+}
