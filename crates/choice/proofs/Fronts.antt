@@ -1,12 +1,12 @@
 -- The choice by the front of a list that passes the page.
 use Rattle.std.proofs.Common.{◌≡◌, ℕ, zero, suc, ◌+◌, ◌-◌, ◌<◌, ◌≤◌, min, List, [], ◌∷◌, ◌++◌, take, drop, add-one, arith}
 use Rattle.std.proofs.lemmas.List.{take-take, take_at, length-take-le, length-take, length-drop, take-append-drop, length-append, get_or-take}
-use Rattle.content.specs.declared.strips.Strip.{Strip}
-use Rattle.content.specs.Strips.{blank}
 use Rattle.std.proofs.lemmas.List.Folds.{prefix_len-append}
 use Rattle.std.proofs.lemmas.List.Sums.{prefix_len-le-length}
 use Rattle.std.proofs.lemmas.Bool.Decides.{nat_tests}
 use Rattle.std.proofs.lemmas.Option.{slice_get-get_or, slice_get_past}
+use Rattle.content.specs.declared.strips.Strip.{Strip}
+use Rattle.content.specs.Strips.{blank}
 use Rattle.choice.specs.Stops.{body, stop_height, limit}
 use Rattle.choice.specs.Choice.{stop_at, choice}
 use Rattle.choice.specs.Law.{PastPageChangesNothing}

@@ -3,8 +3,8 @@ use Rattle.std.proofs.Common.{◌-◌, ◌≤◌, Bool, not, List, ◌∷◌, le
 use Rattle.std.specs.List.{prefix_len}
 use Rattle.std.proofs.lemmas.List.Sums.{prefix_len-le-length, prefix_len_passes, prefix_len_stops}
 use Rattle.std.proofs.lemmas.Option.{slice_get-get_or}
-use Rattle.content.specs.Strips.{blank}
 use Rattle.std.proofs.lemmas.Grind.{get_or_tail}
+use Rattle.content.specs.Strips.{blank}
 use Rattle.content.specs.declared.strips.Strip.{Strip}
 use Rattle.choice.specs.Stops.{IsLimit, is_forced, limit}
 

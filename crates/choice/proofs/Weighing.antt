@@ -1,14 +1,14 @@
 -- Weighing the stops in turn: what holds when the first k are weighed.
-use Rattle.std.proofs.Common.{◌≡◌, ℕ, ◌+◌, ◌-◌, ◌<◌, ◌≤◌, Bool, true, false, cond, ◌⊎◌, List, [], ◌∷◌, Some, None, Option, refl, ◌∙◌, inl, inr, arith}
+use Rattle.std.proofs.Common.{◌≡◌, ℕ, ◌+◌, ◌-◌, ◌<◌, ◌≤◌, Bool, true, false, if◌then◌else◌, ◌⊎◌, List, [], ◌∷◌, Some, None, Option, refl, ◌∙◌, inl, inr, arith}
 use Rattle.std.specs.List.{slice_get}
+use Rattle.std.proofs.lemmas.Option.{slice_get_within, slice_get-get_or}
+use Rattle.std.proofs.lemmas.Bool.Decides.{nat_tests}
 use Rattle.content.specs.declared.ranks.Rank.TheVariants.{Forced}
 use Rattle.content.specs.declared.strips.Strip.{Strip}
-use Rattle.std.proofs.lemmas.Option.{slice_get_within, slice_get-get_or}
 use Rattle.content.specs.Strips.{blank}
+use Rattle.content.specs.Bounds.{Bounded}
 use Rattle.choice.specs.Stops.{rank_before, body, IsLimit, limit}
 use Rattle.choice.specs.Choice.{Stop, stop_at, choice, better}
-use Rattle.content.specs.Bounds.{Bounded}
-use Rattle.std.proofs.lemmas.Bool.Decides.{nat_tests}
 use Rattle.choice.proofs.Limits.{limit_is}
 use Rattle.choice.proofs.Heights.{body_more, body_grows, height_at}
 use Rattle.choice.proofs.Picks.{pick, pick_more, pick_rest}
@@ -22,7 +22,7 @@ has_limit : (xs : List Strip) → 1 ≤ limit xs → IsLimit xs (limit xs)
 has_limit [] h = absurd (omega arith)
 has_limit (x ∷ xs) h = limit_is x xs
 
-carried : {A B : Type 0} (f : A → B) (b : Bool) (x y : A) → cond b (f x) (f y) ≡ f (cond b x y)
+carried : {A B : Type 0} (f : A → B) (b : Bool) (x y : A) → (if b then f x else f y) ≡ f (if b then x else y)
 carried f true x y = refl
 carried f false x y = refl
 
