@@ -45,7 +45,9 @@ impl From<PieceFault> for Refusal {
     fn from(fault: PieceFault) -> Refusal {
         let (number, node, place) = match fault {
             PieceFault::Field { node, field } => (9, node, field),
-            PieceFault::RowHeight { node, row } | PieceFault::RowBales { node, row } => (9, node, row),
+            PieceFault::RowHeight { node, row } | PieceFault::RowBales { node, row } => (
+                9, node, row,
+            ),
             PieceFault::Memory { node } => (255, node, 0),
         };
         Refusal {
