@@ -58,6 +58,7 @@ fn print_pages<C: Content>(
 fn run(rt: &HostRuntime) -> anyhow::Result<()> {
     let heap = rt.alloc();
     let mut forms = read_forms(rt, heap)?;
+    // The program has one message for both, whatever the fault.
     let mut rows = sample::rows(heap)
         .ok()
         .context("no memory for the sample list")?;

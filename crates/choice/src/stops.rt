@@ -53,7 +53,7 @@ impl Stop {
         }
     }
 
-    // Strips, rank and height.
+    // Strips, rank and height: the triple that the rules want of a choice.
     pub(crate) fn numbers(self) -> (u32, Rank, u32)
         requires { self.height < 2 ^ 32 }
         ensures { result ≡ numbers_of self }

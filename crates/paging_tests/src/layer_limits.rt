@@ -68,10 +68,7 @@ fn paddings(rt: HostRuntime) -> Result<(), Fail> {
 }
 
 fn even_lines(lines: u32, reach: u32) -> Result<EvenLines, Fail> {
-    let Some(content) = EvenLines::new(lines, reach) else {
-        return Err(Fail::new("no such lines"));
-    };
-    Ok(content)
+    Ok(EvenLines::new(lines, reach).ok_or("no such lines")?)
 }
 
 // Reach of the content, top and bottom, and whether the box's reach is within the limit.

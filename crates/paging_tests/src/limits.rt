@@ -3,7 +3,7 @@ use content::{Content, Refusal};
 use pieces::{Paragraph, Picture, PieceFault, Row, RowGroup};
 use std::test::Fail;
 
-// Line height, lines, orphans and widows, and the field that is refused, or 0.
+// Line height, lines, orphans and widows, and the field that is refused, or 0 (fields count from 1).
 const PARAGRAPHS: [([u32; 4], u32); 18] = [
     ([1, 1, 1, 1], 0),
     ([65_535, 4_096, 255, 255], 0),

@@ -43,7 +43,7 @@ pub fn next_page<C: Content>(content: &mut C, form: u32) -> Page
     }
 }
 
-// Where the next page ends.
+// Where the next page ends, as `choose` answers it.
 fn page_end<C: Content>(content: &C, form: u32) -> (u32, Rank, u32)
     ensures value { result ≡ choice form (C.strips content.now) }
     ensures some { 0 < length (C.strips content.now) → 0 < result.0 }

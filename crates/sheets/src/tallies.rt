@@ -10,6 +10,7 @@ pub struct Tally {
 }
 
 impl Tally {
+    /// Nothing so far: `Default`, with a contract.
     pub fn new() -> Tally
         ensures pages { result.pages ≡ 0 }
         ensures bales { result.bales ≡ 0 }
