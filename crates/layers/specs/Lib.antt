@@ -8,6 +8,7 @@ pub mod Layers
 pub mod Boxes
 pub mod Keeps
 pub mod Pairs
+pub mod SameStrips
 pub mod PlacesLemmas
 pub mod LawfulChange
 pub mod LawfulLayers

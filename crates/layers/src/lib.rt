@@ -8,6 +8,7 @@ mod keeps;
 mod layer;
 mod padding;
 mod pairs;
+mod same_strips;
 
 // `Layer` and `Effect` stay inside: no other crate makes a layer of its own.
 pub use faults::LayerFault;
@@ -15,3 +16,4 @@ pub use joints::{BreakWord, UnknownWord};
 pub use keeps::Keep;
 pub use padding::{DecorationBreak, Padding, PaddingBox};
 pub use pairs::Pair;
+pub use same_strips::layers_lose_no_strip_holds;
