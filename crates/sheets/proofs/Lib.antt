@@ -1,1 +1,4 @@
+pub mod JoinedPages
+pub mod KeptPages
 pub mod PaddedHeights
+pub mod PlacedStrips

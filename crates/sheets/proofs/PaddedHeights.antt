@@ -10,6 +10,7 @@ use Rattle.layers.specs.declared.padding.Padding.{Padding}
 use Rattle.layers.specs.Boxes.{padded, repeats}
 use Rattle.layers.specs.Places.{by_place}
 use Rattle.layers.specs.PlacesLemmas.{get_or-by_place}
+use Rattle.sheets.proofs.PlacedStrips.{sums}
 
 -- Padding stands in the height of some strips, and where it is repeated in head or tail of all others.
 shared : (repeated there : Bool) (n : ℕ) → cond there n 0 + cond (repeated && not there) n 0 ≡ cond (repeated || there) n 0
@@ -24,16 +25,6 @@ module _ (by : Padding) where
 
   abbrev bottom_if : Bool → ℕ
   bottom_if b = cond b by.bottom 0
-
-  -- Leads stay as they are.
-  leads : (k : ℕ) (begun : Bool) (xs : List Strip) → sum_by (λ s. s.lead) (take k (box begun xs)) ≡ sum_by (λ s. s.lead) (take k xs)
-  leads zero begun xs = refl
-  leads (suc k) begun [] = refl
-  leads (suc k) begun (x ∷ xs) =
-      let first = padded by (not begun) (eqb (length xs) 0) x in
-      sum_by-cons (λ s. s.lead) first (take k (box true xs))
-      ∙ ap (λ n. x.lead + n) (leads k true xs)
-      ∙ sym (sum_by-cons (λ s. s.lead) x (take k xs))
 
   -- The first strip is higher by the top, and the last by the bottom.
   heights : (k : ℕ) (begun : Bool) (x : Strip) (xs : List Strip) → k ≤ length xs → sum_by (λ s. s.height) (take (suc k) (box begun (x ∷ xs))) ≡ sum_by (λ s. s.height) (take (suc k) (x ∷ xs)) + cond (not begun) by.top 0 + bottom_if (eqb (suc k) (suc (length xs)))
@@ -65,4 +56,4 @@ module _ (by : Padding) where
   padded_height begun (x ∷ xs) (suc k) some near =
       let repeated = repeats by.at_breaks in
       let inside : k ≤ length xs = omega arith in
-      omega (arith, heights k begun x xs inside, leads k true xs, tail_at k begun x xs inside, shared repeated (not begun) by.top, shared repeated (eqb (suc k) (suc (length xs))) by.bottom)
+      omega (arith, heights k begun x xs inside, sums (padded by) (λ s. s.lead) k xs (λ last s. refl), tail_at k begun x xs inside, shared repeated (not begun) by.top, shared repeated (eqb (suc k) (suc (length xs))) by.bottom)

@@ -3,12 +3,12 @@
 
 mod forms;
 mod heights;
-mod padding;
+mod layered_pages;
 mod pages;
 mod tallies;
 
 pub use forms::Forms;
 pub use heights::{NoFormHeight, form_height};
-pub use padding::padding_on_pages_holds;
+pub use layered_pages::{joint_on_pages_holds, keep_on_pages_holds, padding_on_pages_holds};
 pub use pages::{Page, next_page};
 pub use tallies::Tally;

@@ -1,0 +1,19 @@
+// What layers come to on the pages of a list.
+ghost use Rattle.sheets.specs.JoinedPages.{JointOnPages};
+ghost use Rattle.sheets.specs.KeptPages.{KeepOnPages};
+ghost use Rattle.sheets.specs.PaddedPages.{PaddingOnPages};
+
+/// What padding takes of each page: it computes nothing, its contract is the law.
+pub fn padding_on_pages_holds()
+    ensures { PaddingOnPages }
+{}
+
+/// What a keep makes of each page end, likewise.
+pub fn keep_on_pages_holds()
+    ensures { KeepOnPages }
+{}
+
+/// What a joint makes of each page of a pair, likewise.
+pub fn joint_on_pages_holds()
+    ensures { JointOnPages }
+{}
