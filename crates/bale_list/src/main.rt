@@ -58,20 +58,13 @@ fn print_pages<C: Content>(
 fn run(rt: &HostRuntime) -> anyhow::Result<()> {
     let heap = rt.alloc();
     let mut forms = read_forms(rt, heap)?;
-    // The program has one message for both, whatever the fault.
-    let mut rows = sample::rows(heap)
-        .ok()
-        .context("no memory for the sample list")?;
-    let mut remark = sample::remark()
-        .ok()
-        .context("no memory for the sample list")?;
+    let mut list = sample::list(heap).context("no memory for the sample list")?;
     let mut tally = Tally::new();
-    print_pages(rt, &mut rows, &mut forms, &mut tally)?;
-    print_pages(rt, &mut remark, &mut forms, &mut tally)?;
+    print_pages(rt, &mut list, &mut forms, &mut tally)?;
     println!(rt;
         "closing: pages {}, strips left {}, bales {}",
         tally.pages,
-        rows.count().saturating_add(remark.count()),
+        list.count(),
         tally.bales
     )?;
     Ok(())

@@ -1,10 +1,8 @@
-// The list that is printed: tag rows, and a remark on them.
-ghost use Rattle.std.specs.Prelude.{◌≡◌, IfOk};
-ghost use Rattle.pieces.specs.Groups.{group_left};
-ghost use Rattle.pieces.specs.Paragraphs.{paragraph_left, paragraph_strips};
-ghost use Rattle.pieces.specs.Rows.{row_strips};
-ghost use Rattle.bale_list.specs.Sample.{sample_tags};
+// The list that is printed: tag rows under a heading that each page repeats, and a remark below them that is kept together.
+ghost use Rattle.std.specs.Prelude.{◌≡◌, IfErr, IfOk};
+ghost use Rattle.bale_list.specs.Sample.{list_left, remark_left, rows_left, sample_list, sample_remark, sample_rows};
 
+use layers::{BreakWord, DecorationBreak, Keep, Padding, PaddingBox, Pair};
 use pieces::{Paragraph, PieceFault, Row, RowGroup};
 use std::alloc::Global;
 
@@ -60,17 +58,39 @@ const TAGS: [Row; 12] = [
     },
 ];
 
-pub fn rows(heap: Global) -> Result<RowGroup, PieceFault>
-    ensures { IfOk result (λ g. group_left g ≡ row_strips 0 sample_tags) }
+const HEADING: Padding = Padding {
+    top: 120,
+    bottom: 0,
+    at_breaks: DecorationBreak::Clone,
+};
+
+// The space between the rows and the remark.
+const GAP: u32 = 60;
+
+/// The rows, and the remark below them. Only want of memory keeps it from being made.
+pub fn list(heap: Global) -> Result<Pair<PaddingBox<RowGroup>, Keep<Paragraph>>, PieceFault>
+    ensures made { IfOk result (λ list. list_left list ≡ sample_list) }
+    ensures fault { IfErr result (λ fault. fault ≡ PieceFault.Memory 0) }
+{
+    let mut list = Pair::new(rows(heap)?, remark());
+    list.join(u32::from(BreakWord::Auto), GAP).unwrap();
+    Ok(list)
+}
+
+fn rows(heap: Global) -> Result<PaddingBox<RowGroup>, PieceFault>
+    ensures made { IfOk result (λ rows. rows_left rows ≡ sample_rows) }
+    ensures fault { IfErr result (λ fault. fault ≡ PieceFault.Memory 0) }
 {
     let mut group = RowGroup::new(heap, 0);
     group.fill(&TAGS)?;
-    Ok(group)
+    let mut rows = PaddingBox::new(group);
+    rows.set(HEADING).unwrap();
+    Ok(rows)
 }
 
-// Five lines that keep two together at either end of a page.
-pub fn remark() -> Result<Paragraph, PieceFault>
-    ensures { IfOk result (λ p. paragraph_left p ≡ paragraph_strips 1 200 5 2 2) }
+// Five lines that would rather stay on one page, and keep two together at either end of one.
+fn remark() -> Keep<Paragraph>
+    ensures { remark_left result ≡ sample_remark }
 {
-    Paragraph::new(1, 200, 5, 2, 2)
+    Keep::new(Paragraph::new(1, 200, 5, 2, 2).unwrap())
 }
