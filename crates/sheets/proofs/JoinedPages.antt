@@ -2,26 +2,23 @@
 use Rattle.std.proofs.Common.{◌≡◌, ℕ, zero, suc, ◌+◌, ◌-◌, ◌≤◌, max, Bool, true, false, not, cond, List, [], ◌∷◌, ◌++◌, length, take, drop, get_or, None, Some, sum_by, refl, ap, ◌∙◌, arith}
 use Rattle.std.specs.Prelude.{Option, option_map}
 use Rattle.std.specs.List.{slice_get}
-use Rattle.std.proofs.lemmas.List.{drop-append-le, get_or_append_left, get_or-append-add, take-append-le, take_all}
+use Rattle.std.proofs.lemmas.List.{drop-append-le, length-append, get_or_append_left, get_or-append-add, take-append-le, take_all}
 use Rattle.std.proofs.Math.Seq.{take-append-add}
 use Rattle.std.proofs.lemmas.List.Sums.{sum_by-append, sum_by-cons}
+use Rattle.std.proofs.lemmas.Option.{slice_get_past}
 use Rattle.content.specs.declared.strips.Strip.{Strip}
 use Rattle.content.specs.Strips.{blank}
 use Rattle.choice.specs.Stops.{body, rank_before, stop_height}
 use Rattle.layers.specs.declared.joints.Joint.{Joint}
 use Rattle.layers.specs.Pairs.{joined, joined_rank}
 use Rattle.layers.specs.Places.{by_place, last_at}
+use Rattle.layers.specs.PlacesLemmas.{length-by_place}
 use Rattle.layers.proofs.TwoLists.{inside, beyond}
 use Rattle.sheets.specs.JoinedPages.{JointAtStops}
 use Rattle.sheets.proofs.PlacedStrips.{TakesNoRoom, height-by_place, read_first, read_later}
 
 no_room : (by : Joint) → TakesNoRoom (joined by)
-no_room by = record {
-  height = λ first last s. refl;
-  head = λ first last s. refl;
-  tail = λ first last s. refl;
-  lead = λ last s. refl;
-}
+no_room by = record { measures = λ first last s. refl; lead = λ last s. refl }
 
 -- A page of two lists that ends in the first, or with it.
 height_inside : (xs zs : List Strip) (k : ℕ) → 1 ≤ k → k ≤ length xs → stop_height (xs ++ zs) k ≡ stop_height xs k
@@ -32,17 +29,17 @@ height_beyond : (xs : List Strip) (z : Strip) (zs : List Strip) (j : ℕ) → 1 
 height_beyond xs z zs zero some more = absurd (omega arith)
 height_beyond xs z zs (suc j) some more =
     let page = take-append-add xs (z ∷ zs) (suc j) in
-    let beyond = z ∷ take j zs in
+    let after = z ∷ take j zs in
     let tail : (get_or (xs ++ (z ∷ zs)) (length xs + suc j - 1) blank).tail ≡ (get_or (z ∷ zs) (suc j - 1) blank).tail = grind (arith, get_or-append-add xs (z ∷ zs) j blank) in
     omega (
       arith,
       ap (λ l. sum_by (λ s. s.height) l) page,
       ap (λ l. sum_by (λ s. s.lead) (drop 1 l)) page,
-      ap (λ l. sum_by (λ s. s.lead) l) (drop-append-le 1 xs beyond some),
+      ap (λ l. sum_by (λ s. s.lead) l) (drop-append-le 1 xs after some),
       ap (λ l. sum_by (λ s. s.height) l) (take_all (length xs) xs (omega arith)),
       ap (λ l. sum_by (λ s. s.lead) (drop 1 l)) (take_all (length xs) xs (omega arith)),
-      sum_by-append (λ s. s.height) xs beyond,
-      sum_by-append (λ s. s.lead) (drop 1 xs) beyond,
+      sum_by-append (λ s. s.height) xs after,
+      sum_by-append (λ s. s.lead) (drop 1 xs) after,
       sum_by-cons (λ s. s.height) z (take j zs),
       sum_by-cons (λ s. s.lead) z (take j zs),
       ap (λ s. s.head) (get_or_append_left xs (z ∷ zs) blank 0 some),
@@ -91,6 +88,7 @@ module _ (by : Joint) (begun : Bool) where
     first_height = height_inside xs (second ys);
     first_rank = λ k here. ap rank_before ((inside xs k here).read (second ys));
     between_rank = λ y first. ap rank_before ((beyond xs (length xs) 0 (omega arith)).read (second ys)) ∙ rank_first ys y first;
+    no_second_rank = λ none. ap rank_before (slice_get_past (xs ++ second ys) (length xs) (omega (arith, length-append xs (second ys), length-by_place (joined by) begun ys, ap length none)));
     second_rank = λ j more. ap rank_before ((beyond xs (length xs + j) j refl).read (second ys)) ∙ rank_later ys j more;
     both_height = height_of_both xs ys;
     second_height = λ j none some near. ap (λ before. stop_height (before ++ second ys) j) none ∙ height-by_place (joined by) (no_room by) begun ys j some near;

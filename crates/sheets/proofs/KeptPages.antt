@@ -15,12 +15,7 @@ use Rattle.sheets.specs.KeptPages.{KeepAtStop, KeepOnPages}
 use Rattle.sheets.proofs.PlacedStrips.{TakesNoRoom, height-by_place, read_later}
 
 no_room : TakesNoRoom kept
-no_room = record {
-  height = λ first last s. refl;
-  head = λ first last s. refl;
-  tail = λ first last s. refl;
-  lead = λ last s. refl;
-}
+no_room = record { measures = λ first last s. refl; lead = λ last s. refl }
 
 avoided_rank : (grade : Rank) → grade ≢ Forced → kept_rank grade ≡ AgainstAvoid
 avoided_rank Forced other = absurd (other refl)

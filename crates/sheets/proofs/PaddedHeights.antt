@@ -10,7 +10,7 @@ use Rattle.layers.specs.declared.padding.Padding.{Padding}
 use Rattle.layers.specs.Boxes.{padded, repeats}
 use Rattle.layers.specs.Places.{by_place}
 use Rattle.layers.specs.PlacesLemmas.{get_or-by_place}
-use Rattle.sheets.proofs.PlacedStrips.{sums}
+use Rattle.sheets.proofs.PlacedStrips.{sum_by-take-by_place}
 
 -- Padding stands in the height of some strips, and where it is repeated in head or tail of all others.
 shared : (repeated there : Bool) (n : ℕ) → cond there n 0 + cond (repeated && not there) n 0 ≡ cond (repeated || there) n 0
@@ -56,4 +56,4 @@ module _ (by : Padding) where
   padded_height begun (x ∷ xs) (suc k) some near =
       let repeated = repeats by.at_breaks in
       let inside : k ≤ length xs = omega arith in
-      omega (arith, heights k begun x xs inside, sums (padded by) (λ s. s.lead) k xs (λ last s. refl), tail_at k begun x xs inside, shared repeated (not begun) by.top, shared repeated (eqb (suc k) (suc (length xs))) by.bottom)
+      omega (arith, heights k begun x xs inside, sum_by-take-by_place (padded by) (λ s. s.lead) k xs (λ last s. refl), tail_at k begun x xs inside, shared repeated (not begun) by.top, shared repeated (eqb (suc k) (suc (length xs))) by.bottom)

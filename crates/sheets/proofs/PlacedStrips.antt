@@ -26,26 +26,28 @@ module _ (f : Change) (begun : Bool) (xs : List Strip) where
       slice_get-by_place f begun xs k ∙ ap (λ first. option_map (f first (last_at (length xs) k)) (slice_get xs k)) behind
 
 -- A sum of what a change leaves of every strip but the first.
-pub sums : (f : Change) (of : Strip → ℕ) (k : ℕ) (xs : List Strip) → ((last : Bool) (s : Strip) → of (f false last s) ≡ of s) → sum_by of (take k (by_place f true xs)) ≡ sum_by of (take k xs)
-sums f of zero xs same = refl
-sums f of (suc k) [] same = refl
-sums f of (suc k) (x ∷ xs) same =
+pub sum_by-take-by_place : (f : Change) (of : Strip → ℕ) (k : ℕ) (xs : List Strip) → ((last : Bool) (s : Strip) → of (f false last s) ≡ of s) → sum_by of (take k (by_place f true xs)) ≡ sum_by of (take k xs)
+sum_by-take-by_place f of zero xs same = refl
+sum_by-take-by_place f of (suc k) [] same = refl
+sum_by-take-by_place f of (suc k) (x ∷ xs) same =
     let first = f false (eqb (length xs) 0) x in
     sum_by-cons of first (take k (by_place f true xs))
     ∙ ap (λ n. n + sum_by of (take k (by_place f true xs))) (same (eqb (length xs) 0) x)
-    ∙ ap (λ n. of x + n) (sums f of k xs same)
+    ∙ ap (λ n. of x + n) (sum_by-take-by_place f of k xs same)
     ∙ sym (sum_by-cons of x (take k xs))
 
--- A change that leaves what a page measures: heights, heads and tails, and leads but for the first strip's, which begins a page.
+-- What a strip measures on a page, but for its lead.
+abbrev measures_of : Strip → ℕ × ℕ × ℕ
+measures_of s = (s.height, s.head, s.tail)
+
+-- A change that leaves what a page measures: the first strip's lead is none of it, since that strip begins the page.
 pub record TakesNoRoom (f : Change) : Type 0 where
-  pub height : (first last : Bool) (s : Strip) → (f first last s).height ≡ s.height
-  pub head : (first last : Bool) (s : Strip) → (f first last s).head ≡ s.head
-  pub tail : (first last : Bool) (s : Strip) → (f first last s).tail ≡ s.tail
+  pub measures : (first last : Bool) (s : Strip) → measures_of (f first last s) ≡ measures_of s
   pub lead : (last : Bool) (s : Strip) → (f false last s).lead ≡ s.lead
 
 module _ (f : Change) (room : TakesNoRoom f) where
   tail_at : (begun : Bool) (xs : List Strip) (i : ℕ) → i < length xs → (get_or (by_place f begun xs) i blank).tail ≡ (get_or xs i blank).tail
-  tail_at begun xs i h = ap (λ s. s.tail) (get_or-by_place f begun xs i blank blank h) ∙ room.tail _ _ (get_or xs i blank)
+  tail_at begun xs i h = ap (λ s. s.tail) (get_or-by_place f begun xs i blank blank h) ∙ ap (λ m. m.2) (room.measures _ _ (get_or xs i blank))
 
   pub height-by_place : (begun : Bool) (xs : List Strip) (k : ℕ) → 1 ≤ k → k ≤ length xs → stop_height (by_place f begun xs) k ≡ stop_height xs k
   height-by_place begun xs zero some near = absurd (omega arith)
@@ -56,11 +58,11 @@ module _ (f : Change) (room : TakesNoRoom f) where
       let rest = by_place f true xs in
       omega (
         arith,
-        room.head (not begun) last x,
-        room.height (not begun) last x,
+        ap (λ m. m.0) (room.measures (not begun) last x),
+        ap (λ m. m.1) (room.measures (not begun) last x),
         sum_by-cons (λ s. s.height) first (take k rest),
         sum_by-cons (λ s. s.height) x (take k xs),
-        sums f (λ s. s.height) k xs (room.height false),
-        sums f (λ s. s.lead) k xs room.lead,
+        sum_by-take-by_place f (λ s. s.height) k xs (λ last s. ap (λ m. m.0) (room.measures false last s)),
+        sum_by-take-by_place f (λ s. s.lead) k xs room.lead,
         tail_at begun (x ∷ xs) (suc k - 1) (omega arith),
       )

@@ -8,12 +8,12 @@ pub fn padding_on_pages_holds()
     ensures { PaddingOnPages }
 {}
 
-/// What a keep makes of each page end, likewise.
+/// What a keep makes of each page end: it computes nothing, its contract is the law.
 pub fn keep_on_pages_holds()
     ensures { KeepOnPages }
 {}
 
-/// What a joint makes of each page of a pair, likewise.
+/// What a joint makes of each page of a pair: it computes nothing, its contract is the law.
 pub fn joint_on_pages_holds()
     ensures { JointOnPages }
 {}
