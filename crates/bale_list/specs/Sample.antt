@@ -1,4 +1,5 @@
--- The sample list: tag rows under a heading that each page repeats, and a remark below them that is kept together.
+-- The sample list: tag rows under a heading that is repeated above them on each page, and below them a remark that is
+-- kept together.
 use Rattle.std.specs.Prelude.{ℕ, false, List, [], ◌∷◌, ◌++◌}
 use Rattle.content.specs.declared.contents.Content.{Ghosts as Meaning}
 use Rattle.content.specs.declared.strips.Strip.{Strip}
@@ -28,7 +29,7 @@ sample_tags =
     tag 240 1 ∷ tag 240 1 ∷ tag 480 1 ∷ tag 240 2 ∷ tag 240 1 ∷ tag 240 1
     ∷ tag 240 2 ∷ tag 480 1 ∷ tag 240 1 ∷ tag 240 1 ∷ tag 240 1 ∷ tag 240 1 ∷ []
 
--- A heading of 120, which is padding above that each page repeats.
+-- A heading of 120: padding above the rows, repeated on each page of them.
 abbrev sample_heading : Padding
 sample_heading = record { top = 120; bottom = 0; at_breaks = Clone }
 
@@ -36,7 +37,7 @@ sample_heading = record { top = 120; bottom = 0; at_breaks = Clone }
 abbrev pub sample_rows : List Strip
 sample_rows = by_place (padded sample_heading) false (row_strips 0 sample_tags)
 
--- Five lines of 200 that would rather stay on one page, and keep two together at either end of one.
+-- Five lines of 200 that would rather stay on one page. The keep asks for more than the orphans and widows, 2 each.
 abbrev pub sample_remark : List Strip
 sample_remark = by_place kept false (paragraph_strips 1 200 5 2 2)
 

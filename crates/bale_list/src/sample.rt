@@ -1,4 +1,5 @@
-// The list that is printed: tag rows under a heading that each page repeats, and a remark below them that is kept together.
+// The list that is printed: tag rows under a heading that is repeated above them on each page, and below them a remark
+// that is kept together.
 ghost use Rattle.std.specs.Prelude.{◌≡◌, IfErr, IfOk};
 ghost use Rattle.bale_list.specs.Sample.{list_left, remark_left, rows_left, sample_list, sample_remark, sample_rows};
 
@@ -88,7 +89,7 @@ fn rows(heap: Global) -> Result<PaddingBox<RowGroup>, PieceFault>
     Ok(rows)
 }
 
-// Five lines that would rather stay on one page, and keep two together at either end of one.
+// Five lines that would rather stay on one page. The keep asks for more than their orphans and widows do.
 fn remark() -> Keep<Paragraph>
     ensures { remark_left result ≡ sample_remark }
 {
