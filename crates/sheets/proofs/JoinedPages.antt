@@ -1,6 +1,6 @@
 -- What a joint comes to on the pages of a pair.
-use Rattle.std.proofs.Common.{◌≡◌, ℕ, zero, suc, ◌+◌, ◌-◌, ◌≤◌, max, Bool, true, false, not, cond, List, [], ◌∷◌, ◌++◌, length, take, drop, get_or, None, Some, sum_by, refl, ap, ◌∙◌, arith}
-use Rattle.std.specs.Prelude.{Option, option_map}
+use Rattle.std.proofs.Common.{◌≡◌, ℕ, zero, suc, ◌+◌, ◌-◌, ◌≤◌, max, Bool, true, false, not, cond, List, [], ◌∷◌, ◌++◌, length, take, drop, get_or, Some, sum_by, refl, ap, ◌∙◌, arith}
+use Rattle.std.specs.Prelude.{option_map}
 use Rattle.std.specs.List.{slice_get}
 use Rattle.std.proofs.lemmas.List.{drop-append-le, length-append, get_or_append_left, get_or-append-add, take-append-le, take_all}
 use Rattle.std.proofs.Math.Seq.{take-append-add}
@@ -15,10 +15,10 @@ use Rattle.layers.specs.Places.{by_place, last_at}
 use Rattle.layers.specs.PlacesLemmas.{length-by_place}
 use Rattle.layers.proofs.TwoLists.{inside, beyond}
 use Rattle.sheets.specs.JoinedPages.{JointAtStops}
-use Rattle.sheets.proofs.PlacedStrips.{TakesNoRoom, height-by_place, read_first, read_later}
+use Rattle.sheets.proofs.PlacedStrips.{TakesNoRoom, height-by_place, rank_before-option_map, read_first, read_later}
 
-no_room : (by : Joint) → TakesNoRoom (joined by)
-no_room by = record { measures = λ first last s. refl; lead = λ last s. refl }
+joined_takes_no_room : (by : Joint) → TakesNoRoom (joined by)
+joined_takes_no_room by = record { measures = λ first last s. refl; lead = λ last s. refl }
 
 -- A page of two lists that ends in the first, or with it.
 height_inside : (xs zs : List Strip) (k : ℕ) → 1 ≤ k → k ≤ length xs → stop_height (xs ++ zs) k ≡ stop_height xs k
@@ -46,19 +46,16 @@ height_beyond xs z zs (suc j) some more =
       tail,
     )
 
+-- A choice the other way round.
 unless : {A : Type 0} (b : Bool) (x y : A) → cond (not b) x y ≡ cond b y x
 unless true x y = refl
 unless false x y = refl
-
-rank_kept : (by : Joint) (last : Bool) (o : Option Strip) → rank_before (option_map (joined by false last) o) ≡ rank_before o
-rank_kept by last None = refl
-rank_kept by last (Some s) = refl
 
 module _ (by : Joint) (begun : Bool) where
   abbrev second : List Strip → List Strip
   second ys = by_place (joined by) begun ys
 
-  -- The joint changes one strip of the second part at most.
+  -- The word grades the break before the first strip of the second part, until one of that part was taken.
   rank_first : (ys : List Strip) (y : Strip) → slice_get ys 0 ≡ Some y → rank_before (slice_get (second ys) 0) ≡ cond begun y.rank (joined_rank by.word y.rank)
   rank_first ys y first =
       let last = last_at (length ys) 0 in
@@ -66,9 +63,11 @@ module _ (by : Joint) (begun : Bool) where
       ∙ ap (λ o. rank_before (option_map (joined by (not begun) last) o)) first
       ∙ unless begun (joined_rank by.word y.rank) y.rank
 
+  -- It grades no other.
   rank_later : (ys : List Strip) (j : ℕ) → 1 ≤ j → rank_before (slice_get (second ys) j) ≡ rank_before (slice_get ys j)
-  rank_later ys j later = ap rank_before (read_later (joined by) begun ys j later) ∙ rank_kept by (last_at (length ys) j) (slice_get ys j)
+  rank_later ys j later = ap rank_before (read_later (joined by) begun ys j later) ∙ rank_before-option_map (joined by false (last_at (length ys) j)) (λ s. refl) (slice_get ys j)
 
+  -- The first strip of the second part stands below the first part, under its lead or the gap.
   height_of_both : (xs ys : List Strip) (y : Strip) (j : ℕ) → slice_get ys 0 ≡ Some y → 1 ≤ length xs → 1 ≤ j → j ≤ length ys → stop_height (xs ++ second ys) (length xs + j) + y.head ≡ body xs (length xs) + cond begun y.lead (max y.lead by.gap) + stop_height ys j
   height_of_both xs [] y j first some more near = absurd (omega arith)
   height_of_both xs (x ∷ ys) y j first some more near =
@@ -77,7 +76,7 @@ module _ (by : Joint) (begun : Bool) where
       omega (
         arith,
         height_beyond xs shown (by_place (joined by) true ys) j some more,
-        height-by_place (joined by) (no_room by) begun (x ∷ ys) j more near,
+        height-by_place (joined by) (joined_takes_no_room by) begun (x ∷ ys) j more near,
         unless begun (max x.lead by.gap) x.lead,
         ap (λ s. s.head) same,
         ap (λ s. cond begun s.lead (max s.lead by.gap)) same,
@@ -91,5 +90,5 @@ module _ (by : Joint) (begun : Bool) where
     no_second_rank = λ none. ap rank_before (slice_get_past (xs ++ second ys) (length xs) (omega (arith, length-append xs (second ys), length-by_place (joined by) begun ys, ap length none)));
     second_rank = λ j more. ap rank_before ((beyond xs (length xs + j) j refl).read (second ys)) ∙ rank_later ys j more;
     both_height = height_of_both xs ys;
-    second_height = λ j none some near. ap (λ before. stop_height (before ++ second ys) j) none ∙ height-by_place (joined by) (no_room by) begun ys j some near;
+    second_height = λ j none some near. ap (λ before. stop_height (before ++ second ys) j) none ∙ height-by_place (joined by) (joined_takes_no_room by) begun ys j some near;
   }

@@ -14,9 +14,10 @@ use Rattle.layers.specs.PlacesLemmas.{length-by_place}
 use Rattle.sheets.specs.KeptPages.{KeepAtStop, KeepOnPages}
 use Rattle.sheets.proofs.PlacedStrips.{TakesNoRoom, height-by_place, read_later}
 
-no_room : TakesNoRoom kept
-no_room = record { measures = λ first last s. refl; lead = λ last s. refl }
+kept_takes_no_room : TakesNoRoom kept
+kept_takes_no_room = record { measures = λ first last s. refl; lead = λ last s. refl }
 
+-- What a keep makes of a break that is not forced, and of one that is.
 avoided_rank : (grade : Rank) → grade ≢ Forced → kept_rank grade ≡ AgainstAvoid
 avoided_rank Forced other = absurd (other refl)
 avoided_rank Free other = refl
@@ -27,12 +28,13 @@ forced_rank : (last : Bool) (o : Option Strip) → rank_before o ≡ Forced → 
 forced_rank last None forced = forced
 forced_rank last (Some s) forced = ap kept_rank forced
 
+-- A stop lies before a strip that is not the first, so the keep grades it.
 keep_at_stop : (begun : Bool) (xs : List Strip) (k : ℕ) → 1 ≤ k → k ≤ length xs → KeepAtStop begun xs k
 keep_at_stop begun xs k some near =
     let last = last_at (length xs) k in
     let read = read_later kept begun xs k some in
     record {
-      height = height-by_place kept no_room begun xs k some near;
+      height = height-by_place kept kept_takes_no_room begun xs k some near;
       avoided = λ inside other. let here = slice_get-get_or xs k blank inside in
           ap rank_before (read ∙ ap (option_map (kept false last)) here) ∙ avoided_rank _ (λ e. other (ap rank_before here ∙ e));
       forced = λ forced. ap rank_before read ∙ forced_rank last (slice_get xs k) forced;

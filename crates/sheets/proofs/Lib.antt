@@ -1,4 +1,4 @@
 pub mod JoinedPages
 pub mod KeptPages
-pub mod PaddedHeights
+pub mod PaddedPages
 pub mod PlacedStrips

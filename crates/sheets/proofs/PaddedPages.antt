@@ -1,16 +1,17 @@
--- The height of a page of a box.
+-- The height of a page of a box, and the rank of its end.
 use Rattle.std.proofs.Common.{◌≡◌, ℕ, zero, suc, ◌+◌, ◌-◌, ◌≤◌, Bool, true, false, cond, not, ◌&&◌, ◌||◌, eqb, List, [], ◌∷◌, length, get_or, take, sum_by, sym, refl, ap, ◌∙◌, add-one, arith}
+use Rattle.std.specs.List.{slice_get}
 use Rattle.std.proofs.lemmas.List.Sums.{sum_by-cons}
 use Rattle.std.proofs.lemmas.Bool.{ne_eqb}
 use Rattle.std.proofs.lemmas.Bool.Decides.{nat_tests}
 use Rattle.content.specs.declared.strips.Strip.{Strip}
 use Rattle.content.specs.Strips.{blank}
-use Rattle.choice.specs.Stops.{stop_height}
+use Rattle.choice.specs.Stops.{rank_before, stop_height, stop_rank}
 use Rattle.layers.specs.declared.padding.Padding.{Padding}
 use Rattle.layers.specs.Boxes.{padded, repeats}
-use Rattle.layers.specs.Places.{by_place}
-use Rattle.layers.specs.PlacesLemmas.{get_or-by_place}
-use Rattle.sheets.proofs.PlacedStrips.{sum_by-take-by_place}
+use Rattle.layers.specs.Places.{by_place, first_at, last_at}
+use Rattle.layers.specs.PlacesLemmas.{get_or-by_place, slice_get-by_place}
+use Rattle.sheets.proofs.PlacedStrips.{rank_before-option_map, sum_by-take-by_place}
 
 -- Padding stands in the height of some strips, and where it is repeated in head or tail of all others.
 shared : (repeated there : Bool) (n : ℕ) → cond there n 0 + cond (repeated && not there) n 0 ≡ cond (repeated || there) n 0
@@ -57,3 +58,8 @@ module _ (by : Padding) where
       let repeated = repeats by.at_breaks in
       let inside : k ≤ length xs = omega arith in
       omega (arith, heights k begun x xs inside, sum_by-take-by_place (padded by) (λ s. s.lead) k xs (λ last s. refl), tail_at k begun x xs inside, shared repeated (not begun) by.top, shared repeated (eqb (suc k) (suc (length xs))) by.bottom)
+
+  pub padded_rank : (begun : Bool) (xs : List Strip) (k : ℕ) → stop_rank (box begun xs) k ≡ stop_rank xs k
+  padded_rank begun xs k =
+      let change = padded by (first_at begun k) (last_at (length xs) k) in
+      ap rank_before (slice_get-by_place (padded by) begun xs k) ∙ rank_before-option_map change (λ s. refl) (slice_get xs k)
